@@ -1,0 +1,6 @@
+//! The language: sources, their trees and what they mean.
+#![tactic(auto)]
+
+mod tree;
+
+pub use tree::{Block, Function, Link, Module, Node, Operator, Statement};
