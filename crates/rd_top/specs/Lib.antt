@@ -1,0 +1,6 @@
+pub mod Bind
+pub mod Body
+pub mod Errors
+pub mod Fits
+pub mod Fresh
+pub mod Shown

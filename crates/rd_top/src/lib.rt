@@ -3,4 +3,4 @@
 
 mod tree;
 
-pub use tree::{Block, Function, Link, Module, Node, Operator, Statement};
+pub use tree::{Block, Function, Literal, Module, Node, Operator, Statement};
