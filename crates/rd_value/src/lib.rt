@@ -2,7 +2,10 @@
 #![tactic(auto)]
 
 pub mod class;
+mod depth;
 pub mod expr;
 pub mod failure;
+pub mod limits;
 pub mod signature;
+mod size;
 pub mod value;
