@@ -4,6 +4,8 @@
 pub mod class;
 mod depth;
 pub mod expr;
+mod expr_depth;
+mod expr_size;
 pub mod failure;
 pub mod limits;
 pub mod signature;

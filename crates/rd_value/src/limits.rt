@@ -1,9 +1,10 @@
 //! The limits of values and expressions.
 
 ghost use Rattle.std.specs.Prelude.{◌≡◌};
-ghost use Rattle.rd_value.specs.Limits.{is_within, are_within};
+ghost use Rattle.rd_value.specs.Limits.{is_within, is_within_expr, are_within};
 
 use crate::depth::items_depth;
+use crate::expr::Expr;
 use crate::size::items_size;
 use crate::value::Value;
 
@@ -16,6 +17,14 @@ pub const MAX_DEPTH: u8 = 64;
 impl Value {
     pub fn within(&self) -> bool
         ensures { result ≡ is_within (λ f. f) self.now }
+    {
+        self.size() <= MAX_SIZE && self.depth() <= MAX_DEPTH
+    }
+}
+
+impl Expr {
+    pub fn within(&self) -> bool
+        ensures { result ≡ is_within_expr (λ f. f) self.now }
     {
         self.size() <= MAX_SIZE && self.depth() <= MAX_DEPTH
     }
