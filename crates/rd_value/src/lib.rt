@@ -2,7 +2,12 @@
 #![tactic(auto)]
 
 pub mod class;
+mod depth;
 pub mod expr;
+mod expr_depth;
+mod expr_size;
 pub mod failure;
+pub mod limits;
 pub mod signature;
+mod size;
 pub mod value;
