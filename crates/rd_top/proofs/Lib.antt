@@ -1,3 +1,5 @@
+pub mod BodyErased
 pub mod Deeper
 pub mod Kept
 pub mod NodeInd
+pub mod NodeSteps
