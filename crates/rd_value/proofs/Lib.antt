@@ -1,3 +1,6 @@
 pub mod Walks
 pub mod Layers
 pub mod ExprLayers
+pub mod Ind
+pub mod Erased
+pub mod ErasedExprs

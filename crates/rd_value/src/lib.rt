@@ -8,6 +8,7 @@ mod expr_depth;
 mod expr_size;
 pub mod failure;
 pub mod limits;
+pub mod operators;
 pub mod signature;
 mod size;
 pub mod value;
