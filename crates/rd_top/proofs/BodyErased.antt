@@ -41,6 +41,7 @@ module _ {F G : Type 0} (h : F → G) where
   chosen_with : {A B : Type 0} (k : A → B) (b : Bool) (x : Ran F A) (y : Ran G B) (e : ErrorValue) → y ≡ ran_with k x → cond b y (Err e) ≡ ran_with k (cond b x (Err e))
   chosen_with k true x y e i = i
   chosen_with k false x y e i = refl
+
   spend_with : {A B : Type 0} (k : A → B) (n : ℕ) (s : State F) (go : State F → Ran F A) (go' : State G → Ran G B)
       → Carries k go go' → spend n (state_with s) go' ≡ ran_with k (spend n s go)
   spend_with k n s go go' u = chosen_with k (nat_le n s.left) _ _ _ (u (record s { left = s.left - n }))

@@ -87,6 +87,22 @@ made (Err e) s = Err e
 abbrev pub not_settled : ErrorValue
 not_settled = record { class = TypeError; text = codes "lazy value" }
 
+-- goes on where a statement didn't end the body
+abbrev pub goes_on : {F : Type 0} → Option (Lazy F) → (State F → Ran F (Option (Lazy F))) → State F → Ran F (Option (Lazy F))
+goes_on None rest s = rest s
+goes_on (Some r) rest s = Ok (Some r, s)
+
+-- a body without `return` gives None
+abbrev pub returned : {F : Type 0} → Option (Lazy F) → Lazy F
+returned None = lazy.Val value.Nothing
+returned (Some r) = r
+
+-- what the parameters stand for at first
+abbrev pub bound_names : {F : Type 0} → List (List ℕ) → List (Datum F) → List ℕ → Option (Lazy F)
+bound_names [] vs x = None
+bound_names (p ∷ ps) [] x = None
+bound_names (p ∷ ps) (v ∷ vs) x = if bytes_eq x p then Some (lazy.Val v) else bound_names ps vs x
+
 module _ {F : Type 0} (file : F → FileValue) where
   -- an operator on what stands at its sides
   abbrev pub operated : Operator → Lazy-F F (Lazy F) → Lazy-F F (Lazy F) → State F → Ran F (Lazy F)
@@ -119,33 +135,21 @@ module _ {F : Type 0} (file : F → FileValue) where
   abbrev pub statement : Statement → State F → Ran F (Option (Lazy F))
   statement (Return e) s = spend 1 s (λ t. and_then (node e t) (λ r u. Ok (Some r, u)))
 
-  abbrev pub goes_on : Option (Lazy F) → (State F → Ran F (Option (Lazy F))) → State F → Ran F (Option (Lazy F))
-  goes_on None rest s = rest s
-  goes_on (Some r) rest s = Ok (Some r, s)
-
   abbrev pub block : List Statement → State F → Ran F (Option (Lazy F))
   block [] s = Ok (None, s)
   block (first ∷ more) s = and_then (statement first s) (λ r t. goes_on r (block more) t)
 
-  -- a body without `return` gives None
-  abbrev pub returned : Option (Lazy F) → Lazy F
-  returned None = lazy.Val value.Nothing
-  returned (Some r) = r
+  abbrev pub whole : List Statement → State F → Ran F (Lazy F)
+  whole statements s = and_then (block statements s) (λ r t. measured (returned r) t)
 
-  -- what the parameters stand for at first
-  abbrev pub bound_names : List (List ℕ) → List (Datum F) → List ℕ → Option (Lazy F)
-  bound_names [] vs x = None
-  bound_names (p ∷ ps) [] x = None
-  bound_names (p ∷ ps) (v ∷ vs) x = if bytes_eq x p then Some (lazy.Val v) else bound_names ps vs x
+  -- where a body begins
+  abbrev pub first_state : Function → List (Datum F) → State F
+  first_state f args = record { names = bound_names f.parameters args; left = most_steps }
 
-  abbrev pub whole : Function → List (Datum F) → Ran F (Lazy F)
-  whole f args =
-      and_then (block f.body (record { names = bound_names f.parameters args; left = most_steps })) (λ r s. measured (returned r) s)
-
-  abbrev pub reduction_of : List ℕ → Ran F (Lazy F) → Reduction F
-  reduction_of task (Ok r) = Reduces r.0 []
-  reduction_of task (Err e) = Fails (in_task task e)
+  abbrev pub reduction : List ℕ → Ran F (Lazy F) → Reduction F
+  reduction task (Ok r) = Reduces r.0 []
+  reduction task (Err e) = Fails (in_task task e)
 
   -- the body of a task on one argument for each parameter
   abbrev pub body : Function → List (Datum F) → Reduction F
-  body f args = reduction_of f.name (whole f args)
+  body f args = reduction f.name (whole f.body (first_state f args))

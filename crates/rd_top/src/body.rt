@@ -1,17 +1,20 @@
 //! Runs the body of a task.
 
-ghost use Rattle.std.specs.Prelude.{◌≡◌, [], map, IfOk};
+ghost use Rattle.std.specs.Prelude.{◌≡◌, [], map, position, slice_get, IfOk};
+ghost use Rattle.std.specs.Str.{bytes_eq};
+ghost use Rattle.std.specs.Option.{option_map, option_copied};
 ghost use Rattle.rd_value.specs.declared.value.FileValue.{FileValue};
 ghost use Rattle.rd_value.specs.declared.expr.Lazy.TheVariants as lazy;
 ghost use Rattle.rd_top.specs.Body as spec;
 ghost use Rattle.rd_top.specs.Errors as errors;
 ghost use Rattle.rd_top.specs.declared.body.Halt.TheVariants as halt;
-ghost use Rattle.rd_top.specs.Running.{own, state, Gives, Spends};
+ghost use Rattle.rd_top.specs.Running.{own, state, Gives, Spends, reduction_of};
 
 use crate::tree::{Function, Literal, Node, Operator, Statement};
 use rd_base::{Copies, Items, OutOfMemory, Text};
 use rd_value::class::Class;
 use rd_value::expr::{Expr, Exprs};
+use rd_value::failure::Failure;
 use rd_value::value::{ErrorValue, Value};
 use std::alloc::Global;
 
@@ -88,16 +91,14 @@ fn making(value: &Value) -> usize
 fn spend(alloc: Global, left: &mut u32, steps: usize) -> Result<(), Halt>
     ensures { Spends result steps left.old left.new }
 {
-    match u32::try_from(steps) {
-        Ok(steps) if steps <= *left => {
-            *left -= steps;
-            Ok(())
-        }
-        _ => Err(Halt::Raised(ErrorValue {
-            class: Class::LimitError,
-            text: Text::from_str(alloc, "steps")?,
-        })),
+    if steps <= *left as usize {
+        *left -= steps as u32;
+        return Ok(());
     }
+    Err(Halt::Raised(ErrorValue {
+        class: Class::LimitError,
+        text: Text::from_str(alloc, "steps")?,
+    }))
 }
 
 fn literal(alloc: Global, literal: &Literal) -> Result<Value, OutOfMemory>
@@ -111,6 +112,19 @@ fn literal(alloc: Global, literal: &Literal) -> Result<Value, OutOfMemory>
     }
 }
 
+/// The place of a parameter.
+fn place(parameters: &[Text], name: &Text) -> Option<usize>
+    ensures { result ≡ position (λ parameter. bytes_eq name.now parameter) parameters.now }
+{
+    parameters.iter().position(|parameter| name == parameter)
+}
+
+fn argument_at(arguments: &[Value], at: usize) -> Option<&Value>
+    ensures { option_copied result ≡ slice_get arguments.now at }
+{
+    arguments.get(at)
+}
+
 /// The arguments of a call, by the names of its parameters.
 #[derive(Clone, Copy)]
 struct Scope<'a> {
@@ -120,16 +134,24 @@ struct Scope<'a> {
 }
 
 impl Scope<'_> {
+    /// The argument for the parameter of this name.
+    fn argument(&self, name: &Text) -> Option<&Value>
+        ensures { option_map lazy.Val (option_copied result) ≡ spec.bound_names self.now.parameters.now self.now.arguments.now name.now }
+    {
+        match place(self.parameters, name) {
+            Some(at) => argument_at(self.arguments, at),
+            None => None,
+        }
+    }
+
     /// What a name stands for.
     fn name(&self, name: &Text) -> Result<Expr, Halt>
         ensures { (s : spec.State FileValue) → Gives result s (spec.found name.now (spec.bound_names self.now.parameters.now self.now.arguments.now name.now) s) }
     {
-        for (parameter, argument) in self.parameters.iter().zip(self.arguments) {
-            if name == parameter {
-                return Ok(Expr::Val(argument.copy(self.alloc)?));
-            }
+        match self.argument(name) {
+            Some(value) => Ok(Expr::Val(value.copy(self.alloc)?)),
+            None => Err(Halt::Raised(raised(self.alloc, Class::NameError, name.as_str())?)),
         }
-        Err(Halt::Raised(raised(self.alloc, Class::NameError, name.as_str())?))
     }
 
     #[cycle(node)]
@@ -153,8 +175,12 @@ impl Scope<'_> {
             }
             Node::Chain { first, rest } => {
                 spend(self.alloc, left, rest.len())?;
-                let first = self.node(first.get(), left)?;
-                self.links(first, rest.as_slice(), left)
+                let mut done = self.node(first.get(), left)?;
+                for (operator, operand) in rest.as_slice() {
+                    let operand = self.node(operand, left)?;
+                    done = self.operate(*operator, &done, &operand, left)?;
+                }
+                Ok(done)
             }
         }
     }
@@ -170,20 +196,6 @@ impl Scope<'_> {
             all.push(self.alloc, self.node(node, left)?)?;
         }
         Ok(all)
-    }
-
-    /// The operands of a chain behind the first, each taken to what stands before it.
-    #[cycle(node)]
-    fn links(&self, first: Expr, rest: &[(Operator, Node)], left: &mut u32) -> Result<Expr, Halt>
-        ensures { Gives result (state self.now.parameters.now self.now.arguments.now left.new)
-            (spec.links own first (map (λ l. (l.0, spec.node own l.1)) rest.now) (state self.now.parameters.now self.now.arguments.now left.old)) }
-    {
-        let mut done = first;
-        for (operator, node) in rest {
-            let operand = self.node(node, left)?;
-            done = self.operate(*operator, &done, &operand, left)?;
-        }
-        Ok(done)
     }
 
     fn operate(&self, operator: Operator, a: &Expr, b: &Expr, left: &mut u32) -> Result<Expr, Halt>
@@ -218,5 +230,67 @@ impl Scope<'_> {
                 keywords: Items::new(self.alloc),
             },
         )
+    }
+
+    /// What a statement returns, where the body ends there.
+    fn statement(&self, statement: &Statement, left: &mut u32) -> Result<Option<Expr>, Halt>
+        ensures { Gives result (state self.now.parameters.now self.now.arguments.now left.new)
+            (spec.statement own statement.now (state self.now.parameters.now self.now.arguments.now left.old)) }
+    {
+        let Statement::Return(node) = statement;
+        spend(self.alloc, left, 1)?;
+        Ok(Some(self.node(node, left)?))
+    }
+
+    fn block(&self, block: &[Statement], left: &mut u32) -> Result<Option<Expr>, Halt>
+        ensures { Gives result (state self.now.parameters.now self.now.arguments.now left.new)
+            (spec.block own block.now (state self.now.parameters.now self.now.arguments.now left.old)) }
+    {
+        for statement in block {
+            if let Some(expr) = self.statement(statement, left)? {
+                return Ok(Some(expr));
+            }
+        }
+        Ok(None)
+    }
+
+    fn whole(&self, body: &[Statement], left: &mut u32) -> Result<Expr, Halt>
+        ensures { Gives result (state self.now.parameters.now self.now.arguments.now left.new)
+            (spec.whole own body.now (state self.now.parameters.now self.now.arguments.now left.old)) }
+    {
+        let returned = self.block(body, left)?;
+        measured(self.alloc, returned.unwrap_or(Expr::Val(Value::Nothing)))
+    }
+}
+
+/// What a body comes to.
+#[derive(Drop)]
+pub enum Reduction {
+    Expr(Expr),
+    Failed(Failure),
+}
+
+/// Runs the body of a task on one argument for each parameter.
+pub fn run_body(
+    alloc: Global,
+    function: &Function,
+    arguments: &[Value],
+) -> Result<Reduction, OutOfMemory>
+    ensures { IfOk result (λ r. reduction_of r ≡ spec.body own function.now arguments.now) }
+{
+    let scope = Scope {
+        alloc,
+        parameters: function.parameters.as_slice(),
+        arguments,
+    };
+    let mut left = MOST_STEPS;
+    match scope.whole(function.body.as_slice(), &mut left) {
+        Ok(expr) => Ok(Reduction::Expr(expr)),
+        Err(Halt::Raised(error)) => Ok(Reduction::Failed(Failure {
+            class: error.class,
+            text: error.text,
+            origin: function.name.copy(alloc)?,
+        })),
+        Err(Halt::OutOfMemory) => Err(OutOfMemory),
     }
 }
