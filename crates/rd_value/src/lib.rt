@@ -13,4 +13,6 @@ pub mod operators;
 mod repr;
 pub mod signature;
 mod size;
+#[cfg(test)]
+mod tests;
 pub mod value;
