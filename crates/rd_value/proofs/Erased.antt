@@ -1,8 +1,9 @@
 -- What does not depend on what a file carries.
-use Rattle.std.proofs.Common.{◌≡◌, ◌∙◌, refl, sym, ap, List, [], ◌∷◌, map}
+use Rattle.std.proofs.Common.{◌≡◌, ℕ, ℤ, ◌∙◌, refl, sym, ap, List, [], ◌∷◌, map}
 use Rattle.rd_value.specs.declared.value.FileValue.{FileValue}
 use Rattle.rd_value.specs.declared.value.Datum.{Datum}
 use Rattle.rd_value.specs.declared.value.Datum.TheViews as made
+use Rattle.rd_value.specs.declared.value.Datum.TheVariants as variant
 use Rattle.rd_value.specs.declared.value.Datum.TheOpen.{Datum-F}
 use Rattle.rd_value.specs.declared.value.Datum.TheFolds.{fold-Datum, fold-roll-Datum, map-Datum}
 use Rattle.rd_value.specs.Depth.{depth, depth_at}
@@ -58,3 +59,17 @@ module _ {F G : Type 0} (h : F → G) (file : G → FileValue) where
   pub repr_with_files : (v : Datum F) → repr file (with_files h v) ≡ repr (λ f. file (h f)) v
   repr_with_files v = fold_with_files h (repr_at (λ f. file (h f))) (repr_at file)
       (elim [ Datum-F.Nothing ↦ refl | Datum-F.Bool b ↦ refl | Datum-F.Int n ↦ refl | Datum-F.Text t ↦ refl | Datum-F.List xs ↦ refl | Datum-F.Dict ps ↦ refl | Datum-F.File f ↦ refl | Datum-F.Error e ↦ refl ]) v
+
+-- the value of one layer with other files
+module _ {F G : Type 0} (h : F → G) where
+  pub int_with_files : (n : ℤ) → with_files h (variant.Int n) ≡ variant.Int n
+  unfolding made.roll-Datum denote.Hole.Carrier.roll
+  int_with_files n = fold-roll-Datum F (Datum G) (λ x. made.roll-Datum G (with_file h x)) (Datum-F.Int n)
+
+  pub text_with_files : (t : List ℕ) → with_files h (variant.Text t) ≡ variant.Text t
+  unfolding made.roll-Datum denote.Hole.Carrier.roll
+  text_with_files t = fold-roll-Datum F (Datum G) (λ x. made.roll-Datum G (with_file h x)) (Datum-F.Text t)
+
+  pub list_with_files : (xs : List (Datum F)) → with_files h (variant.List xs) ≡ variant.List (map (with_files h) xs)
+  unfolding made.roll-Datum denote.Hole.Carrier.roll
+  list_with_files xs = fold-roll-Datum F (Datum G) (λ x. made.roll-Datum G (with_file h x)) (Datum-F.List xs)

@@ -1,5 +1,5 @@
 -- The equations of sizes and depths at a value of each kind.
-use Rattle.std.proofs.Common.{◌≡◌, ℕ, ℤ, ◌+◌, ◌∙◌, ap, List, length, map, arith, length-append}
+use Rattle.std.proofs.Common.{◌≡◌, ℕ, ℤ, ◌+◌, ◌∙◌, ap, List, ◌++◌, length, map, arith, length-append}
 use Rattle.std.specs.Fmt.{signed_decimal}
 use Rattle.rd_value.specs.declared.value.FileValue.{FileValue}
 use Rattle.rd_value.specs.declared.value.ErrorValue.{ErrorValue}
@@ -11,6 +11,8 @@ use Rattle.rd_value.specs.declared.value.Datum.TheFolds.{fold-roll-Datum}
 use Rattle.rd_value.specs.Class.{name}
 use Rattle.rd_value.specs.Canon.{canon, canon_at, string, joined, keyed}
 use Rattle.rd_value.specs.Depth.{depth, depth_at, greatest, greater}
+use Rattle.std.specs.Prelude.{codes}
+use Rattle.rd_value.specs.Repr.{repr, repr_at, with_commas, pair_repr}
 use Rattle.rd_value.specs.Limits.{size}
 
 module _ {F : Type 0} (file : F → FileValue) where
@@ -41,3 +43,7 @@ depth_list {F} xs = fold-roll-Datum F ℕ depth_at (Datum-F.List xs)
 pub depth_dict : {F : Type 0} (ps : List (Datum F × Datum F)) → depth (variant.Dict ps) ≡ greatest (map greater (map (λ p. (depth p.0, depth p.1)) ps)) + 1
 unfolding made.roll-Datum denote.Hole.Carrier.roll
 depth_dict {F} ps = fold-roll-Datum F ℕ depth_at (Datum-F.Dict ps)
+
+pub repr_dict : {F : Type 0} (file : F → FileValue) (ps : List (Datum F × Datum F)) → repr file (variant.Dict ps) ≡ codes "{" ++ with_commas (map pair_repr (map (λ p. (repr file p.0, repr file p.1)) ps)) ++ codes "}"
+unfolding made.roll-Datum denote.Hole.Carrier.roll
+repr_dict {F} file ps = fold-roll-Datum F (List ℕ) (repr_at file) (Datum-F.Dict ps)

@@ -4,3 +4,5 @@ pub mod ExprLayers
 pub mod Ind
 pub mod Erased
 pub mod ErasedExprs
+pub mod ErasedLimits
+pub mod ErasedOperators

@@ -1,5 +1,6 @@
 -- Values and expressions with something else in place of each of their files.
-use Rattle.std.specs.Prelude.{List, map}
+use Rattle.std.specs.Prelude.{List, map, Result, Ok, Err}
+use Rattle.rd_value.specs.declared.value.ErrorValue.{ErrorValue}
 use Rattle.rd_value.specs.declared.value.FileValue.{FileValue}
 use Rattle.rd_value.specs.declared.value.Datum.{Datum}
 use Rattle.rd_value.specs.declared.value.Datum.TheViews.{roll-Datum}
@@ -46,6 +47,11 @@ module _ {F G : Type 0} (h : F → G) where
   -- an expression
   abbrev pub with_files_expr : Lazy F → Lazy G
   with_files_expr = fold-Lazy F (Lazy G) (λ x. roll-Lazy G (with_file_expr x))
+
+-- the answer of an operation, with its value's files
+abbrev pub carried : {F G : Type 0} → (F → G) → Result (Datum F) ErrorValue → Result (Datum G) ErrorValue
+carried h (Ok v) = Ok (with_files h v)
+carried h (Err e) = Err e
 
 -- a value as the program holds it
 abbrev pub erase : ModelValue → Datum FileValue

@@ -4,6 +4,7 @@ use Rattle.std.specs.Fmt.{signed_decimal}
 use Rattle.std.specs.List.{list_any}
 use Rattle.std.specs.Str.{chars}
 use Rattle.rd_value.specs.Class.{name}
+use Rattle.rd_value.specs.declared.value.ErrorValue.{ErrorValue}
 use Rattle.rd_value.specs.declared.value.FileValue.{FileValue}
 use Rattle.rd_value.specs.declared.value.Datum.{Datum}
 use Rattle.rd_value.specs.declared.value.Datum.TheOpen.{Datum-F}
@@ -41,19 +42,26 @@ escaped_all quote cs = flat_map (escaped quote) cs
 abbrev pub quoted : List ℕ → List ℕ
 quoted bs = encode_utf8 (quote_of bs) ++ escaped_all (quote_of bs) (chars bs) ++ encode_utf8 (quote_of bs)
 
--- each part behind a comma
-abbrev pub after_commas : List (List ℕ) → List ℕ
-after_commas [] = []
-after_commas (bs ∷ rest) = codes ", " ++ bs ++ after_commas rest
+-- each part behind a separator, which after the first is a comma
+abbrev pub separated : List ℕ → List (List ℕ) → List ℕ
+separated separator [] = []
+separated separator (bs ∷ rest) = separator ++ bs ++ separated (codes ", ") rest
 
 -- the parts with commas between them
 abbrev pub with_commas : List (List ℕ) → List ℕ
-with_commas [] = []
-with_commas (bs ∷ rest) = bs ++ after_commas rest
+with_commas parts = separated [] parts
 
 -- a key and its value
 abbrev pub pair_repr : List ℕ × List ℕ → List ℕ
 pair_repr p = p.0 ++ codes ": " ++ p.1
+
+-- a file: its path, and its digest in hexadecimal digits
+abbrev pub file_repr : FileValue → List ℕ
+file_repr f = codes "File(path=" ++ quoted f.path ++ codes ", hash=" ++ hex_digits f.digest.0 ++ codes ")"
+
+-- an error: its class and its text
+abbrev pub error_repr : ErrorValue → List ℕ
+error_repr e = name e.class ++ codes "(" ++ quoted e.text ++ codes ")"
 
 module _ {F : Type 0} (file : F → FileValue) where
   -- the printed form of a value, from those of its parts
@@ -64,8 +72,8 @@ module _ {F : Type 0} (file : F → FileValue) where
   repr_at (Datum-F.Text t) = quoted t
   repr_at (Datum-F.List xs) = codes "[" ++ with_commas xs ++ codes "]"
   repr_at (Datum-F.Dict ps) = codes "{" ++ with_commas (map pair_repr ps) ++ codes "}"
-  repr_at (Datum-F.File f) = codes "File(path=" ++ quoted (file f).path ++ codes ", hash=" ++ hex_digits (file f).digest.0 ++ codes ")"
-  repr_at (Datum-F.Error e) = name e.class ++ codes "(" ++ quoted e.text ++ codes ")"
+  repr_at (Datum-F.File f) = file_repr (file f)
+  repr_at (Datum-F.Error e) = error_repr e
 
   -- the printed form of a value
   abbrev pub repr : Datum F → List ℕ
