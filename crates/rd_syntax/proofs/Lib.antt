@@ -1,0 +1,3 @@
+pub mod Encoded
+pub mod Classes
+pub mod Bounds
