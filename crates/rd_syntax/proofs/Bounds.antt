@@ -1,7 +1,7 @@
 -- How fast the count of open brackets grows, and that what is written of a token is UTF-8.
 use Rattle.std.specs.Prelude.{◌==◌, encode_utf8}
 use Rattle.std.specs.Str.{IsUtf8}
-use Rattle.std.proofs.Common.{◌≡◌, ℕ, zero, suc, ◌+◌, ◌-◌, ◌*◌, ◌≤◌, ◌<◌, Bool, true, false, cond, ◌||◌, ◌&&◌, List, [], ◌∷◌, ◌++◌, Option, Some, None, refl, sym, ap, subst, ◌∙◌, append_assoc, arith}
+use Rattle.std.proofs.Common.{◌≡◌, ℕ, zero, suc, ◌+◌, ◌-◌, ◌*◌, ◌≤◌, ◌<◌, Bool, true, false, cond, List, [], ◌∷◌, ◌++◌, Option, Some, None, refl, sym, ap, subst, append_assoc, arith}
 use Rattle.std.proofs.lemmas.List.{append-nil}
 use Rattle.std.proofs.lemmas.Str.{IsUtf8-nil, IsUtf8-append, IsUtf8-encode}
 use lib.Utf8.{low_scalar}
@@ -23,7 +23,7 @@ use Rattle.rd_syntax.specs.Layout.{next, Entered, enter, depth_of, past_space, p
 use Rattle.rd_syntax.specs.Machine.{at_start, ended, quote_step, long_step, quoted_return_step, spot, Step, opened, begin, end_word, end_number, end_sign, sign_place, pushed, written, quoted_at, comment_at, lead_step, word_step, number_step, quoted_step, escape_step, hex_step, digit_step, comment_step, return_step, step_in, put}
 use Rattle.rd_syntax.specs.Outcome.{IsAt, IsSound}
 use Rattle.rd_syntax.proofs.Encoded.{wide_utf8}
-use Rattle.rd_syntax.proofs.Classes.{means, ascii, and_ascii, quote_low, escape_low, hex_low}
+use Rattle.rd_syntax.proofs.Classes.{means, ascii, and_ascii, quote_low, plain_low, escape_low, hex_low}
 
 -- no more brackets than this are open, and what is written is sound
 abbrev Keeps : ℕ → Step → Type 0
@@ -125,15 +125,7 @@ keep_quoted n quote long c.Backslash s b e h u = (h, u)
 keep_quoted n quote long c.Feed s b e h u = keep_long n long (m.Quoted quote long) (pushed s 10) h (and_ascii s.text 10 u (omega arith))
 keep_quoted n quote long c.Return s b e h u = keep_long n long (m.QuotedReturn quote long) s h u
 keep_quoted n quote long c.High s b e h u = keep_lead n quote long (lead_of b) s b refl h u
-keep_quoted n quote long c.Letter s b e h u = (h, and_ascii s.text b u (means c.Letter b e))
-keep_quoted n quote long c.Underscore s b e h u = (h, and_ascii s.text b u (means c.Underscore b e))
-keep_quoted n quote long c.Digit s b e h u = (h, and_ascii s.text b u (means c.Digit b e))
-keep_quoted n quote long c.Hash s b e h u = (h, and_ascii s.text b u (let same : b ≡ 35 = means c.Hash b e in omega arith))
-keep_quoted n quote long c.Space s b e h u = (h, and_ascii s.text b u (let same : b ≡ 32 = means c.Space b e in omega arith))
-keep_quoted n quote long c.Tab s b e h u = (h, and_ascii s.text b u (let same : b ≡ 9 = means c.Tab b e in omega arith))
-keep_quoted n quote long c.Sign s b e h u = (h, and_ascii s.text b u (means c.Sign b e))
-keep_quoted n quote long c.Half s b e h u = (h, and_ascii s.text b u (means c.Half b e))
-keep_quoted n quote long c.Other s b e h u = (h, and_ascii s.text b u (means c.Other b e))
+keep_quoted n quote long κ s b e h u = (h, and_ascii s.text b u (plain_low κ b e refl))
 
 keep_quoted_return : (n : ℕ) (quote : Quote) (long : Bool) (κ : Class) (s : Lexer) → depth_of s.place ≤ n → IsUtf8 s.text → Keeps n (quoted_return_step quote long κ s)
 keep_quoted_return n quote long c.Feed s h u = (h, and_ascii s.text 10 u (omega arith))

@@ -1,15 +1,15 @@
 -- Which bytes a class has.
 use Rattle.std.specs.Prelude.{◌==◌, nat_le}
-use Rattle.std.proofs.Common.{◌≡◌, ℕ, ◌+◌, ◌-◌, ◌*◌, ◌<◌, ◌≤◌, Bool, true, false, cond, ◌&&◌, ◌||◌, List, [], ◌∷◌, ◌++◌, Option, Some, None, refl, sym, ap, subst, ◌∙◌, arith, rules, tests, eqb-true, leb-true, leb-false}
+use Rattle.std.proofs.Common.{◌≡◌, ℕ, ◌+◌, ◌-◌, ◌<◌, ◌≤◌, Bool, true, false, cond, ◌||◌, List, [], ◌∷◌, ◌++◌, Option, Some, None, refl, sym, ap, subst, ◌∙◌, arith, rules, tests, eqb-true, leb-true, leb-false}
 use Rattle.std.proofs.lemmas.Str.{IsUtf8-append, IsUtf8-encode, encode_ascii}
 use Rattle.std.specs.Str.{IsUtf8}
-use lib.Utf8.{encode, low_scalar}
+use lib.Utf8.{low_scalar}
 use Rattle.rd_syntax.specs.declared.class.Class.{Class}
 use Rattle.rd_syntax.specs.declared.class.Class.TheVariants as c
 use Rattle.rd_syntax.specs.declared.class.Quote.{Quote}
 use Rattle.rd_syntax.specs.declared.class.Quote.TheVariants as q
-use Rattle.rd_syntax.specs.Bytes.{between, class_of, quote_byte, other_quote, is_quote, is_single, is_double, other_half, escape_of, hex_of}
-use Rattle.rd_syntax.proofs.Encoded.{and_true, between_true}
+use Rattle.rd_syntax.specs.Bytes.{between, class_of, quote_byte, other_quote, is_quote, is_plain, is_remark, is_single, escape_of, hex_of}
+use Rattle.rd_syntax.proofs.Encoded.{between_true}
 
 -- ---- from the byte to the class
 
@@ -93,6 +93,35 @@ means_of b =
 pub means : (κ : Class) (b : ℕ) → class_of b ≡ κ → Means κ b
 means κ b e = subst (λ (x : Class). Means x b) e (means_of b)
 
+pub quote_low : (quote : Quote) → quote_byte quote < 128
+quote_low q.Single = omega arith
+quote_low q.Double = omega arith
+
+pub remark_low : (κ : Class) (b : ℕ) → class_of b ≡ κ → is_remark κ ≡ true → b < 128
+remark_low c.Letter b e h = means c.Letter b e
+remark_low c.Underscore b e h = means c.Underscore b e
+remark_low c.Digit b e h = means c.Digit b e
+remark_low (c.Quote quote) b e h = subst (λ n. n < 128) (sym (means (c.Quote quote) b e)) (quote_low quote)
+remark_low c.Backslash b e h = let same : b ≡ 92 = means c.Backslash b e in omega arith
+remark_low c.Hash b e h = let same : b ≡ 35 = means c.Hash b e in omega arith
+remark_low c.Space b e h = let same : b ≡ 32 = means c.Space b e in omega arith
+remark_low c.Tab b e h = let same : b ≡ 9 = means c.Tab b e in omega arith
+remark_low c.Sign b e h = means c.Sign b e
+remark_low c.Half b e h = means c.Half b e
+remark_low c.Other b e h = means c.Other b e
+remark_low c.Feed b e h = absurd cc
+remark_low c.Return b e h = absurd cc
+remark_low c.High b e h = absurd cc
+
+plain_remark : (κ : Class) → is_plain κ ≡ true → is_remark κ ≡ true
+plain_remark c.Feed h = absurd cc
+plain_remark c.Return h = absurd cc
+plain_remark c.High h = absurd cc
+plain_remark κ h = refl
+
+pub plain_low : (κ : Class) (b : ℕ) → class_of b ≡ κ → is_plain κ ≡ true → b < 128
+plain_low κ b e h = remark_low κ b e (plain_remark κ h)
+
 -- another quote than this one is the other one
 pub other_is : (quote found : Quote) (b : ℕ) → b ≡ quote_byte found → (b == quote_byte quote) ≡ false → b ≡ quote_byte (other_quote quote)
 other_is q.Single q.Single b e h = absurd (let no : true ≡ false = sym (ap (λ n. n == 39) e) ∙ h in cc)
@@ -124,10 +153,6 @@ ascii b h = subst IsUtf8 (encode_ascii b h) (IsUtf8-encode b (low_scalar b (omeg
 
 pub and_ascii : (text : List ℕ) (b : ℕ) → IsUtf8 text → b < 128 → IsUtf8 (text ++ b ∷ [])
 and_ascii text b u h = IsUtf8-append text (b ∷ []) u (ascii b h)
-
-pub quote_low : (quote : Quote) → quote_byte quote < 128
-quote_low q.Single = omega arith
-quote_low q.Double = omega arith
 
 -- what an escape stands for is ASCII
 Low : Option ℕ → ℕ → Type 0

@@ -1,7 +1,7 @@
 -- The table of well-formed sequences gives the characters past ASCII in UTF-8, and no others.
-use Rattle.std.specs.Prelude.{◌==◌, nat_le, encode_utf8}
+use Rattle.std.specs.Prelude.{◌==◌, nat_le}
 use Rattle.std.specs.Char.{IsScalar}
-use Rattle.std.proofs.Common.{◌≡◌, ℕ, ◌+◌, ◌-◌, ◌*◌, ◌/◌, ◌%◌, ◌≤◌, ◌<◌, Bool, true, false, cond, ◌&&◌, List, [], ◌∷◌, Option, Some, None, refl, sym, ap, subst, ◌∙◌, arith, rules, tests, ltb, leb, ◌⊎◌, inl, inr, leb-true, le-leb, eqb-true, eq-eqb, ltb-true, ltb-false}
+use Rattle.std.proofs.Common.{◌≡◌, ℕ, ◌+◌, ◌-◌, ◌*◌, ◌/◌, ◌%◌, ◌≤◌, ◌<◌, Bool, true, false, cond, ◌&&◌, List, [], ◌∷◌, Option, Some, None, refl, sym, ap, subst, ◌∙◌, arith, rules, tests, ltb, ◌⊎◌, inl, inr, leb-true, le-leb, eqb-true, eq-eqb, ltb-true, ltb-false}
 use Rattle.std.proofs.lemmas.Nat.{div-mul-add, mod-mul-add, div-add-mod', mod_below}
 use Rattle.std.proofs.lemmas.Str.{IsUtf8-encode}
 use Rattle.std.specs.Str.{IsUtf8}
@@ -141,7 +141,7 @@ in_range t.LastThree b h k = is_between 128 143 b h k
 
 -- ---- from the character to the table
 
-split : (a b : ℕ) → (a < b) ⊎ (b ≤ a)
+pub split : (a b : ℕ) → (a < b) ⊎ (b ≤ a)
 split a b = way (ltb a b) refl
   where
     way : (t : Bool) → ltb a b ≡ t → (a < b) ⊎ (b ≤ a)
@@ -153,9 +153,9 @@ apart a b h =
     elim (split a b) [
       | inl lt ↦ inl lt
       | inr le ↦ elim (split b a) [
-          | inl lt ↦ inr lt
-          | inr ge ↦ absurd (let e : (a == b) ≡ true = eq-eqb a b (omega arith) in let no : true ≡ false = sym e ∙ h in cc)
-        ]
+        | inl lt ↦ inr lt
+        | inr ge ↦ absurd (let e : (a == b) ≡ true = eq-eqb a b (omega arith) in let no : true ≡ false = sym e ∙ h in cc)
+      ]
     ]
 
 lead_two : (x : ℕ) → 2 ≤ x → x < 32 → lead_of (192 + x) ≡ Some t.One
@@ -226,9 +226,9 @@ module _ (w x y z : ℕ) (x_is : x < 64) (y_is : y < 64) (z_is : z < 64) (long :
       elim (split w 1) [
         | inl lt ↦ first (omega arith)
         | inr low ↦ elim (split w 4) [
-            | inl lt ↦ (t.Three, lead_four w low lt, (in_range t.Three (128 + x) (omega arith) (omega arith), (in_range t.Two (128 + y) (omega arith) (omega arith), (rest_in z z_is, tt))))
-            | inr le ↦ final (omega arith)
-          ]
+          | inl lt ↦ (t.Three, lead_four w low lt, (in_range t.Three (128 + x) (omega arith) (omega arith), (in_range t.Two (128 + y) (omega arith) (omega arith), (rest_in z z_is, tt))))
+          | inr le ↦ final (omega arith)
+        ]
       ]
     where
       first : w ≡ 0 → IsWide (240 + w) ((128 + x) ∷ (128 + y) ∷ (128 + z) ∷ [])
@@ -238,11 +238,10 @@ module _ (w x y z : ℕ) (x_is : x < 64) (y_is : y < 64) (z_is : z < 64) (long :
       final e = rw e (t.LastThree, lead_last_three, (in_range t.LastThree (128 + x) (omega arith) (omega arith), (in_range t.Two (128 + y) (omega arith) (omega arith), (rest_in z z_is, tt))))
 
 -- the bytes of a character past ASCII
-pub Wide : ℕ → Type 0
+abbrev pub Wide : ℕ → Type 0
 Wide c = (b : ℕ) × (more : List ℕ) × (encode c ≡ b ∷ more) × IsWide b more
 
 pub wide : (c : ℕ) → IsScalar c → 128 ≤ c → Wide c
-unfolding Wide
 wide c s low =
     let z : ℕ = c % 64 in
     let q : ℕ = c / 64 in
@@ -261,23 +260,30 @@ wide c s low =
     elim (split c 2048) [
       | inl two ↦ (192 + q, (128 + z) ∷ [], two_bytes c low two, two_wide q z (omega arith) (omega arith) lz)
       | inr long ↦ elim (split c 65536) [
-          | inl short ↦ (224 + p, (128 + y) ∷ (128 + z) ∷ [], ap encode three ∙ at_three p y z (omega arith) ly lz (omega arith),
-              three_wide p y z (omega arith) ly lz (omega arith) (subst (λ n. (n < 55296) ⊎ ((57344 ≤ n) × (n < 1114112))) three (scalar_cases c s)))
-          | inr longest ↦ (240 + w, (128 + x) ∷ (128 + y) ∷ (128 + z) ∷ [], ap encode four ∙ at_four w x y z lx ly lz (omega arith),
-              four_wide w x y z lx ly lz (omega arith) (elim (scalar_cases c s) [ | inl h ↦ omega arith | inr h ↦ (let top : c < 1114112 = h.1 in omega arith) ]))
-        ]
+        | inl short ↦ (
+          224 + p,
+          (128 + y) ∷ (128 + z) ∷ [],
+          ap encode three ∙ at_three p y z (omega arith) ly lz (omega arith),
+          three_wide p y z (omega arith) ly lz (omega arith) (subst (λ n. (n < 55296) ⊎ ((57344 ≤ n) × (n < 1114112))) three (scalar_cases c s)),
+        )
+        | inr longest ↦ (
+          240 + w,
+          (128 + x) ∷ (128 + y) ∷ (128 + z) ∷ [],
+          ap encode four ∙ at_four w x y z lx ly lz (omega arith),
+          four_wide w x y z lx ly lz (omega arith) (elim (scalar_cases c s) [ inl h ↦ omega arith | inr h ↦ (let top : c < 1114112 = h.1 in omega arith) ]),
+        )
+      ]
     ]
 
 -- ---- from the table to the character
 
-pub Spelled : ℕ → List ℕ → Type 0
+abbrev pub Spelled : ℕ → List ℕ → Type 0
 Spelled b more = (c : ℕ) × IsScalar c × (128 ≤ c) × (encode c ≡ b ∷ more)
 
 high_scalar : (c : ℕ) → 57344 ≤ c → c < 1114112 → scalar c ≡ true
 high_scalar c low high = rw (not_below c 55296 (omega arith), le-leb 57344 c low, below c 1114112 high) refl
 
 two_spelled : (b d : ℕ) → 194 ≤ b → b ≤ 223 → 128 ≤ d → d ≤ 191 → Spelled b (d ∷ [])
-unfolding Spelled
 two_spelled b d low high d_low d_high =
     let x : ℕ = b - 192 in
     let y : ℕ = d - 128 in
@@ -286,12 +292,10 @@ two_spelled b d low high d_low d_high =
     (x * 64 + y, low_scalar (x * 64 + y) (omega arith), omega arith, at_two x y (omega arith) (omega arith) (omega arith) ∙ rw (eb, ed) refl)
 
 three_spelled : (x y z b d e : ℕ) → b ≡ 224 + x → d ≡ 128 + y → e ≡ 128 + z → x < 16 → y < 64 → z < 64 → 2048 ≤ (x * 64 + y) * 64 + z → IsScalar ((x * 64 + y) * 64 + z) → Spelled b (d ∷ e ∷ [])
-unfolding Spelled
 three_spelled x y z b d e eb ed ee high y_is z_is long s = ((x * 64 + y) * 64 + z, s, omega arith, at_three x y z high y_is z_is long ∙ rw (sym eb, sym ed, sym ee) refl)
 
 four_spelled : (w x y z b d e f : ℕ) → b ≡ 240 + w → d ≡ 128 + x → e ≡ 128 + y → f ≡ 128 + z → x < 64 → y < 64 → z < 64 → 65536 ≤ ((w * 64 + x) * 64 + y) * 64 + z → ((w * 64 + x) * 64 + y) * 64 + z < 1114112
     → Spelled b (d ∷ e ∷ f ∷ [])
-unfolding Spelled
 four_spelled w x y z b d e f eb ed ee ef x_is y_is z_is long last =
     (((w * 64 + x) * 64 + y) * 64 + z, high_scalar (((w * 64 + x) * 64 + y) * 64 + z) (omega arith) last, omega arith, at_four w x y z x_is y_is z_is long ∙ rw (sym eb, sym ed, sym ee, sym ef) refl)
 
@@ -371,7 +375,7 @@ module _ (b d e : ℕ) (e_in : Inside 128 191 e) where
       let le : 128 ≤ e = e_low in
       let he : e ≤ 191 = e_high in
       let c : ℕ = ((b - 224) * 64 + (d - 128)) * 64 + (e - 128) in
-      let s : IsScalar c = elim (apart b 237 unlike) [ | inl lt ↦ low_scalar c (omega arith) | inr gt ↦ high_scalar c (omega arith) (omega arith) ] in
+      let s : IsScalar c = elim (apart b 237 unlike) [ inl lt ↦ low_scalar c (omega arith) | inr gt ↦ high_scalar c (omega arith) (omega arith) ] in
       three_at (b - 224) b d e (omega arith) (omega arith) d_in e_in (omega arith) s
 
 module _ (b d e f : ℕ) (e_in : Inside 128 191 e) (f_in : Inside 128 191 f) where
@@ -427,5 +431,16 @@ pub spelled : (b : ℕ) (more : List ℕ) → IsWide b more → Spelled b more
 spelled b more h = at_table b h.0 more (subst (λ (o : Option Tail). Leads o b) h.1 (leads b)) h.2
 
 pub wide_utf8 : (b : ℕ) (more : List ℕ) → IsWide b more → IsUtf8 (b ∷ more)
-unfolding Spelled
 wide_utf8 b more h = let q = spelled b more h in subst IsUtf8 q.3 (IsUtf8-encode q.0 q.1)
+
+pub lead_high : (b : ℕ) (more : List ℕ) → IsWide b more → 128 ≤ b
+lead_high b more h = way h.0 (subst (λ (o : Option Tail). Leads o b) h.1 (leads b))
+  where
+    way : (t : Tail) → Leads (Some t) b → 128 ≤ b
+    way t.One l = let low : 194 ≤ b = l.0 in omega arith
+    way t.Two l = let low : 225 ≤ b = l.0 in omega arith
+    way t.Three l = let low : 241 ≤ b = l.0 in omega arith
+    way t.LongTwo l = omega arith
+    way t.NoSurrogate l = omega arith
+    way t.LongThree l = omega arith
+    way t.LastThree l = omega arith

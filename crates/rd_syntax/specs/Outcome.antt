@@ -1,7 +1,6 @@
 -- What the functions of the lexer return.
 use Rattle.std.specs.Prelude.{◌≡◌, ℕ, ◌<◌, ◌≤◌, ◌+◌, List, ◌∷◌, ◌++◌, Option, Some, None, Result, Ok, Err}
 use Rattle.std.specs.Str.{IsUtf8}
-use Rattle.rd_syntax.specs.declared.utf8.Tail.{Tail}
 use Rattle.rd_syntax.specs.declared.token.Token.{Token}
 use Rattle.rd_syntax.specs.declared.layout.Position.{Position}
 use Rattle.rd_syntax.specs.declared.lexer.Mode.{Mode}

@@ -1,7 +1,6 @@
 -- Sources, their tokens and the lines of refusals.
 use Rattle.std.specs.Prelude.{◌≡◌, ◌≤◌, ◌<◌, ◌⊎◌, length, ℕ, false, List, [], ◌∷◌, ◌++◌, Some, Result, Ok, Err}
 use Rattle.rd_syntax.specs.declared.token.Token.{Token}
-use Rattle.rd_syntax.specs.declared.layout.Position.{Position}
 use Rattle.rd_syntax.specs.declared.layout.Place.TheVariants.{Before}
 use Rattle.rd_syntax.specs.declared.source.SourceError.{SourceError}
 use Rattle.rd_syntax.specs.declared.source.SourceError.TheVariants as err

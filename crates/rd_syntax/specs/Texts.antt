@@ -1,5 +1,5 @@
 -- Texts and comments.
-use Rattle.std.specs.Prelude.{◌≡◌, ℕ, ◌+◌, ◌*◌, ◌<◌, zero, suc, Bool, true, List, [], ◌∷◌, ◌++◌, Some, encode_utf8}
+use Rattle.std.specs.Prelude.{◌≡◌, ℕ, ◌+◌, ◌*◌, ◌<◌, suc, Bool, true, List, [], ◌∷◌, ◌++◌, Some, encode_utf8}
 use Rattle.std.specs.Char.{IsScalar}
 use Rattle.rd_syntax.specs.declared.class.Class.{Class}
 use Rattle.rd_syntax.specs.declared.class.Quote.{Quote}
