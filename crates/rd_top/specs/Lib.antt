@@ -1,0 +1,4 @@
+pub mod Form
+pub mod Reader
+pub mod Terminal
+pub mod Gives

@@ -1,0 +1,5 @@
+//! From tokens to trees.
+
+mod halt;
+mod take;
+mod terminal;
