@@ -6,3 +6,7 @@ pub mod Depth
 pub mod Rules
 pub mod Whole
 pub mod Loops
+pub mod Expressions
+pub mod Flat
+pub mod FlatExpressions
+pub mod Halts

@@ -69,9 +69,9 @@ module _ {T A : Type 0} (P : ℕ → Form T A) (f : ℕ → Reader T A) (first m
   text_more n ts a [] some e = absurd (some refl)
   text_more n ts a (t ∷ after) some e = text_longer n ts a t after e
 
-pub none_left : {T : Type 0} (ts : List T) → (length ts == 0) ≡ true → ts ≡ []
-none_left [] h = refl
-none_left (t ∷ ts) h = absurd (let no : length (t ∷ ts) ≡ 0 = eqb-true _ _ h in omega arith)
+pub none_left : {T : Type 0} (n : ℕ) (ts : List T) → n ≡ length ts → (n == 0) ≡ true → ts ≡ []
+none_left n [] l h = refl
+none_left n (t ∷ ts) l h = absurd (let no : n ≡ 0 = eqb-true _ _ h in omega (arith, l))
 
-pub some_left : {T : Type 0} (ts : List T) → (length ts == 0) ≡ false → ts ≢ []
-some_left ts h e = let same : (length ts == 0) ≡ true = rw e refl in cc
+pub some_left : {T : Type 0} (n : ℕ) (ts : List T) → n ≡ length ts → (n == 0) ≡ false → ts ≢ []
+some_left n ts l h e = let none : n ≡ 0 = l ∙ ap length e in let same : (n == 0) ≡ true = rw none refl in cc

@@ -2,3 +2,5 @@ pub mod Form
 pub mod Reader
 pub mod Terminal
 pub mod Gives
+pub mod Grammar
+pub mod Reading

@@ -1,5 +1,6 @@
 //! From tokens to trees.
 
+mod expression;
 mod halt;
 mod take;
 mod terminal;
