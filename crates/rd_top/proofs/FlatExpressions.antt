@@ -5,10 +5,10 @@ use Rattle.rd_top.specs.declared.parse.terminal.Terminal.TheVariants as w
 use Rattle.rd_top.specs.declared.tree.Node.{Node}
 use Rattle.rd_top.specs.declared.tree.Node.TheVariants as node
 use Rattle.rd_top.specs.declared.tree.Link.{Link}
-use Rattle.rd_top.specs.Reader.{Reader, Outcome, sees, hits, and_then, ◌>>=◌, pure, read_one, read_both, read_made, read_opt, read_many, read_below, read_listed, read_open}
+use Rattle.rd_top.specs.Reader.{Reader, Outcome, sees, hits, ◌>>=◌, pure, read_one, read_made, read_opt, read_many, read_below, read_listed}
 use Rattle.rd_top.specs.Terminal.{is, among, name_of, text_of}
 use Rattle.rd_top.specs.Grammar.{operator_of, begins_expression, lit, named_by, chained, link_of}
-use Rattle.rd_top.specs.Reading.{read_arguments, read_named, read_atom, read_link, read_chain, read_expression, more_arguments, listed_arguments, arguments_at, call_at, atom_at, link_at, links_at, chain_at}
+use Rattle.rd_top.specs.Reading.{read_arguments, read_atom, read_link, read_expression, more_arguments, listed_arguments, arguments_at, call_at, atom_at, link_at, links_at, chain_at}
 use Rattle.rd_top.proofs.Flat.{assoc, flat2, flat3, flat_opt, flat_listed, shut}
 use Rattle.rd_top.specs.declared.parse.halt.Halt.{Halt}
 use Rattle.rd_top.specs.Gives.{Fails}

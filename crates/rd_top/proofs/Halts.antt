@@ -1,5 +1,5 @@
 -- What each function of the parser adds to what its callees gave.
-use Rattle.std.proofs.Common.{◌≡◌, Bool, true, false, List, ◌∷◌, ◌++◌, Ok, Err, refl, sym, ap, subst, ◌∙◌}
+use Rattle.std.proofs.Common.{◌≡◌, Bool, true, List, sym, ap, subst, ◌∙◌}
 use Rattle.rd_syntax.specs.declared.token.Token.{Token}
 use Rattle.rd_top.specs.declared.parse.halt.Halt.{Halt}
 use Rattle.rd_top.specs.declared.parse.halt.Halt.TheVariants as halt

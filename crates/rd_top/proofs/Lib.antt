@@ -10,3 +10,7 @@ pub mod Expressions
 pub mod Flat
 pub mod FlatExpressions
 pub mod Halts
+pub mod Tasks
+pub mod FlatTasks
+pub mod Modules
+pub mod Sources

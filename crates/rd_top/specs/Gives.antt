@@ -1,5 +1,5 @@
 -- What a function of the parser returned, as what its reader gives.
-use Rattle.std.specs.Prelude.{◌≡◌, Bool, false, List, Option, Some, None, Result, Ok, Err}
+use Rattle.std.specs.Prelude.{◌≡◌, false, List, Option, Some, None, Result, Ok, Err}
 use Rattle.rd_syntax.specs.declared.token.Token.{Token}
 use Rattle.rd_top.specs.declared.parse.halt.Halt.{Halt}
 use Rattle.rd_top.specs.declared.parse.halt.Halt.TheVariants as halt

@@ -4,3 +4,4 @@ pub mod Terminal
 pub mod Gives
 pub mod Grammar
 pub mod Reading
+pub mod Source

@@ -1,4 +1,4 @@
-use Rattle.std.proofs.Common.{rules, ◌≡◌, true, [], refl, sym, ◌∙◌}
+use Rattle.std.proofs.Common.{rules, ◌≡◌, true, refl, sym, ◌∙◌}
 use Rattle.std.proofs.lemmas.Result.{err_from_is_err_and}
 use Rattle.rd_top.specs.declared.parse.terminal.Terminal.TheVariants as w
 use Rattle.rd_top.specs.declared.tree.Node.{Node}
