@@ -2,6 +2,13 @@ pub mod Bind
 pub mod Body
 pub mod Errors
 pub mod Fits
+pub mod Form
 pub mod Fresh
+pub mod Gives
+pub mod Grammar
+pub mod Reader
+pub mod Reading
 pub mod Running
 pub mod Shown
+pub mod Source
+pub mod Terminal

@@ -2,6 +2,11 @@
 #![tactic(auto)]
 
 mod body;
+mod parse;
+mod source;
 mod tree;
 
+pub use body::run_body;
+pub use parse::MAX_NESTING;
+pub use source::read_source;
 pub use tree::{Block, Function, Literal, Module, Node, Operator, Statement};

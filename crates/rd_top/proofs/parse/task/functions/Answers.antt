@@ -1,0 +1,31 @@
+use Rattle.std.proofs.Common.{sym, ◌∙◌}
+use Rattle.std.proofs.lemmas.Result.{err_from_is_err_and}
+use Rattle.rd_top.specs.declared.parse.terminal.Terminal.TheVariants as w
+use Rattle.rd_top.specs.Reader.{hits}
+use Rattle.rd_top.specs.Terminal.{is}
+use Rattle.rd_top.specs.Reading.{function_at, functions_at}
+use Rattle.rd_top.proofs.Loops.{plain_goes_on, plain_done}
+use Rattle.rd_top.proofs.Halts.{plain_fails}
+use Rattle.rd_top.proofs.FlatTasks.{function_short}
+use Rattle.rd_top.proofs.parse.task.functions.Goals as goal
+
+pub returns-in_err-next : goal.returns-in_err-next
+unfolding functions_at
+returns-in_err-next c =
+    let p = err_from_is_err_and c.from_residual.result c.from_residual.ensures.1 in
+    rw (p.1, p.2) (plain_fails (hits (is w.At)) (function_at c.args.depth) (function_short c.args.depth) c.loop-alloc.all.items c.loop-alloc.rest.now c.in_err-next.field-0.0 _
+    (sym c.begins_with.ensures ∙ c.loop-alloc-test.true) c.in_err-next.ensures c.loop-alloc.invariant)
+
+pub loop-alloc-smaller : goal.loop-alloc-smaller
+loop-alloc-smaller c = function_short c.args.depth c.in_ok-next.next c.loop-alloc.rest.now c.in_ok-next.after.now c.in_ok-next.ensures
+
+pub loop-alloc-preserved : goal.loop-alloc-preserved
+unfolding functions_at
+loop-alloc-preserved c =
+    rw c.in_ok-push.ensures.items (sym (plain_goes_on (hits (is w.At)) (function_at c.args.depth) (function_short c.args.depth) c.loop-alloc.all.items c.loop-alloc.rest.now c.in_ok-next.after.now c.in_ok-next.next
+    (sym c.begins_with.ensures ∙ c.loop-alloc-test.true) c.in_ok-next.ensures) ∙ c.loop-alloc.invariant)
+
+pub returns : goal.returns
+unfolding functions_at
+returns c =
+    sym c.loop-alloc.invariant ∙ plain_done (hits (is w.At)) (function_at c.args.depth) (function_short c.args.depth) c.loop-alloc.all.items c.loop-alloc.rest.now (sym c.begins_with.ensures ∙ c.loop-alloc-test.false)

@@ -1,0 +1,23 @@
+//! Whole sources.
+
+ghost use Rattle.std.specs.Prelude.{IfOk};
+ghost use Rattle.rd_syntax.specs.Source.{IsOrMemory};
+ghost use Rattle.rd_top.specs.Source.{IsSource};
+ghost use Rattle.rd_top.specs.declared.tree.Module.{Module};
+
+use crate::parse::parse;
+use crate::tree::Module;
+use rd_syntax::{SourceError, lex};
+use std::alloc::Global;
+
+/// The module of a source. It is refused where it has none.
+pub fn read_source(alloc: Global, source: &[u8]) -> Result<Module, SourceError>
+    // What is read is the source's module.
+    ensures found { IfOk result (λ m. IsSource source.now m) }
+
+    // A source that has a module has it read, unless memory runs out.
+    ensures only { (m : Module) → IsSource source.now m → IsOrMemory result m }
+{
+    let tokens = lex(alloc, source)?;
+    parse(alloc, &tokens)
+}
