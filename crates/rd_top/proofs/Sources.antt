@@ -3,7 +3,7 @@ use Rattle.std.proofs.Common.{◌≡◌, ℕ, List, Err, subst}
 use Rattle.rd_syntax.specs.declared.token.Token.{Token}
 use Rattle.rd_syntax.specs.declared.source.SourceError.{SourceError}
 use Rattle.rd_syntax.specs.declared.source.SourceError.TheVariants as err
-use Rattle.rd_syntax.specs.Source.{Lexes, IsOrMemory}
+use Rattle.rd_syntax.specs.Sources.{Lexes, IsOrMemory}
 use Rattle.rd_top.specs.Grammar.{IsModule}
 use Rattle.rd_top.specs.Source.{HasOneModule}
 use Rattle.rd_top.proofs.Modules.{one_tree}

@@ -1,7 +1,7 @@
 -- Whole sources.
 use Rattle.std.specs.Prelude.{◌≡◌, ℕ, List}
 use Rattle.rd_syntax.specs.declared.token.Token.{Token}
-use Rattle.rd_syntax.specs.Source.{Lexes}
+use Rattle.rd_syntax.specs.Sources.{Lexes}
 use Rattle.rd_top.specs.declared.tree.Module.{Module}
 use Rattle.rd_top.specs.Grammar.{IsModule}
 
