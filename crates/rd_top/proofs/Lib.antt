@@ -1,15 +1,19 @@
+pub mod Binding
 pub mod BodyErased
 pub mod Chain
 pub mod Cut
 pub mod Deeper
 pub mod Depth
+pub mod Evaluated
 pub mod Expressions
+pub mod Fitting
 pub mod Flat
 pub mod FlatExpressions
 pub mod FlatTasks
 pub mod Halts
 pub mod Kept
 pub mod Laws
+pub mod LazyCounts
 pub mod Loops
 pub mod Many
 pub mod Modules
@@ -17,6 +21,7 @@ pub mod More
 pub mod Names
 pub mod NodeInd
 pub mod NodeSteps
+pub mod Parts
 pub mod Rules
 pub mod Sources
 pub mod Tail

@@ -22,14 +22,14 @@ seconds ps = map (λ p. p.1) ps
 -- the lazy expressions in one, itself among them
 abbrev pub lazies_at : {F : Type 0} → Lazy-F F ℕ → ℕ
 lazies_at (Lazy-F.Val v) = 0
-lazies_at (Lazy-F.Call task positional keywords) = 1 + (sum positional + sum (seconds keywords))
+lazies_at (Lazy-F.Call task positional keywords) = (sum positional + sum (seconds keywords)) + 1
 lazies_at (Lazy-F.Input path) = 1
-lazies_at (Lazy-F.Op op parts) = 1 + sum parts
-lazies_at (Lazy-F.ListOf parts) = 1 + sum parts
-lazies_at (Lazy-F.DictOf pairs) = 1 + sum (seconds pairs)
-lazies_at (Lazy-F.Cond test when_true when_false) = 1 + (test + (when_true + when_false))
-lazies_at (Lazy-F.Map task list) = 1 + list
-lazies_at (Lazy-F.Catch tried class recover) = 1 + tried
+lazies_at (Lazy-F.Op op parts) = sum parts + 1
+lazies_at (Lazy-F.ListOf parts) = sum parts + 1
+lazies_at (Lazy-F.DictOf pairs) = sum (seconds pairs) + 1
+lazies_at (Lazy-F.Cond test when_true when_false) = ((test + when_true) + when_false) + 1
+lazies_at (Lazy-F.Map task list) = list + 1
+lazies_at (Lazy-F.Catch tried class recover) = tried + 1
 
 abbrev pub lazies : {F : Type 0} → Lazy F → ℕ
 lazies {F} = fold-Lazy F ℕ lazies_at

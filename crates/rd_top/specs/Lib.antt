@@ -1,6 +1,7 @@
 pub mod Bind
 pub mod Body
 pub mod Errors
+pub mod Evaluating
 pub mod Fits
 pub mod Form
 pub mod Fresh

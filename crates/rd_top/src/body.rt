@@ -1,15 +1,16 @@
 //! Runs the body of a task.
 
-ghost use Rattle.std.specs.Prelude.{◌≡◌, [], map, position, slice_get, IfOk};
+ghost use Rattle.std.specs.Prelude.{◌≡◌, [], map, position, IfOk};
 ghost use Rattle.std.specs.Str.{bytes_eq};
 ghost use Rattle.std.specs.Option.{option_map, option_copied};
 ghost use Rattle.rd_value.specs.declared.value.FileValue.{FileValue};
 ghost use Rattle.rd_value.specs.declared.expr.Lazy.TheVariants as lazy;
 ghost use Rattle.rd_top.specs.Body as spec;
-ghost use Rattle.rd_top.specs.Errors as errors;
 ghost use Rattle.rd_top.specs.declared.body.Halt.TheVariants as halt;
 ghost use Rattle.rd_top.specs.Running.{own, state, Gives, Spends, reduction_of};
 
+use crate::lists::at;
+use crate::raise::raised;
 use crate::tree::{Function, Literal, Node, Operator, Statement};
 use rd_base::{Copies, Items, OutOfMemory, Text};
 use rd_value::class::Class;
@@ -17,9 +18,6 @@ use rd_value::expr::{Expr, Exprs};
 use rd_value::failure::Failure;
 use rd_value::value::{ErrorValue, Value};
 use std::alloc::Global;
-
-/// The most bytes of an error's text.
-pub const LONGEST: usize = 4096;
 
 /// The most steps of a body.
 pub const MOST_STEPS: u32 = 1_000_000;
@@ -40,26 +38,6 @@ impl From<OutOfMemory> for Halt {
     fn from(_error: OutOfMemory) -> Halt {
         Halt::OutOfMemory
     }
-}
-
-/// The longest front of whole characters within the limit of an error's text.
-fn cut(text: &str) -> &str
-    ensures { result.now ≡ errors.cut text.now }
-{
-    if text.len() <= LONGEST {
-        return text;
-    }
-    &text[..text.floor_char_boundary(LONGEST)]
-}
-
-/// An error as it is raised.
-fn raised(alloc: Global, class: Class, text: &str) -> Result<ErrorValue, OutOfMemory>
-    ensures { IfOk result (λ e. e ≡ errors.raised class text.now) }
-{
-    Ok(ErrorValue {
-        class,
-        text: Text::from_str(alloc, cut(text))?,
-    })
 }
 
 /// An expression that a body makes, which is measured.
@@ -119,12 +97,6 @@ fn place(parameters: &[Text], name: &Text) -> Option<usize>
     parameters.iter().position(|parameter| name == parameter)
 }
 
-fn argument_at(arguments: &[Value], at: usize) -> Option<&Value>
-    ensures { option_copied result ≡ slice_get arguments.now at }
-{
-    arguments.get(at)
-}
-
 /// The arguments of a call, by the names of its parameters.
 #[derive(Clone, Copy)]
 struct Scope<'a> {
@@ -139,7 +111,7 @@ impl Scope<'_> {
         ensures { option_map lazy.Val (option_copied result) ≡ spec.bound_names self.now.parameters.now self.now.arguments.now name.now }
     {
         match place(self.parameters, name) {
-            Some(at) => argument_at(self.arguments, at),
+            Some(place) => at(self.arguments, place),
             None => None,
         }
     }

@@ -1,8 +1,13 @@
 //! The language: sources, their trees and what they mean.
 #![tactic(auto)]
 
+mod bind;
 mod body;
+mod evaluate;
+mod lazies;
+mod lists;
 mod parse;
+mod raise;
 mod source;
 mod tree;
 

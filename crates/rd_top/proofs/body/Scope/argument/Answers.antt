@@ -8,8 +8,8 @@ use Rattle.rd_top.proofs.body.Scope.argument.Goals as goal
 
 pub returns-in-Some : goal.returns-in-Some
 returns-in-Some c =
-    let found : position (λ p. bytes_eq c.args.name.now p) c.args.self.now.parameters.now ≡ Some c.in-Some.at = sym c.in-Some.ensures in
-    ap (option_map lazy.Val) (c.argument_at.ensures ∙ ap (at_place c.args.self.now.arguments.now) (sym found)) ∙ bound_at c.args.self.now.parameters.now c.args.self.now.arguments.now c.args.name.now
+    let found : position (λ p. bytes_eq c.args.name.now p) c.args.self.now.parameters.now ≡ Some c.in-Some.place = sym c.in-Some.ensures in
+    ap (option_map lazy.Val) (c.at.ensures ∙ ap (at_place c.args.self.now.arguments.now) (sym found)) ∙ bound_at c.args.self.now.parameters.now c.args.self.now.arguments.now c.args.name.now
 
 pub returns-in-None : goal.returns-in-None
 returns-in-None c =

@@ -3,7 +3,7 @@ use Rattle.rd_top.proofs.Cut.{floor_is}
 use borrow.Author.Tests.{lt-leb}
 use Rattle.std.proofs.lemmas.Grind.{common_steps}
 use Rattle.rd_top.specs.Errors.{longest}
-use Rattle.rd_top.proofs.body.cut.Goals as goal
+use Rattle.rd_top.proofs.raise.cut.Goals as goal
 
 pub returns : goal.returns
 returns c =
