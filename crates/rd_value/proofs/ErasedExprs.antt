@@ -1,15 +1,14 @@
 -- What of an expression does not depend on what a file carries.
-use Rattle.std.proofs.Common.{◌≡◌, ℕ, ◌∙◌, refl, sym, ap, max, List, [], ◌∷◌, ◌++◌, map}
-use Rattle.std.specs.Prelude.{codes}
+use Rattle.std.proofs.Common.{◌≡◌, ℕ, ◌∙◌, refl, sym, ap, List, [], ◌∷◌, map}
 use Rattle.rd_value.specs.declared.value.FileValue.{FileValue}
 use Rattle.rd_value.specs.declared.value.Datum.{Datum}
 use Rattle.rd_value.specs.declared.expr.Lazy.{Lazy}
 use Rattle.rd_value.specs.declared.expr.Lazy.TheViews as made
 use Rattle.rd_value.specs.declared.expr.Lazy.TheOpen.{Lazy-F}
 use Rattle.rd_value.specs.declared.expr.Lazy.TheFolds.{fold-Lazy, fold-roll-Lazy, map-Lazy}
-use Rattle.rd_value.specs.Depth.{depth_expr, depth_expr_at, greatest, keyed_depth}
-use Rattle.rd_value.specs.Canon.{canon_expr, canon_expr_at, joined, under_key}
-use Rattle.rd_value.specs.Erase.{with_files, with_files_key, with_files_expr, with_file_expr}
+use Rattle.rd_value.specs.Depth.{depth_expr, depth_expr_at, keyed_depth}
+use Rattle.rd_value.specs.Canon.{canon_expr, canon_expr_at, under_key}
+use Rattle.rd_value.specs.Erase.{with_files_key, with_files_expr, with_file_expr}
 use Rattle.rd_value.proofs.Ind.{Each, EachSecond, lazy_ind}
 use Rattle.rd_value.proofs.Erased.{canon_with_files, depth_with_files}
 

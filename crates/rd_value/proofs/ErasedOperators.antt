@@ -1,9 +1,8 @@
 -- Operators do not look at what files carry.
-use Rattle.std.proofs.Common.{◌≡◌, true, false, List, ◌++◌, map, refl, sym, ap, ◌∙◌, None, Some, Ok, Err, cond}
-use Rattle.std.specs.Prelude.{ℤ, Option, Result, ◌+ℤ◌}
+use Rattle.std.proofs.Common.{◌≡◌, true, false, ◌++◌, refl, sym, ap, ◌∙◌, None, Some, Ok, Err, cond}
+use Rattle.std.specs.Prelude.{ℤ, Option, ◌+ℤ◌}
 use Rattle.std.proofs.lemmas.List.{map-append}
 use Rattle.rd_value.specs.declared.value.FileValue.{FileValue}
-use Rattle.rd_value.specs.declared.value.ErrorValue.{ErrorValue}
 use Rattle.rd_value.specs.declared.value.Datum.{Datum, out-Datum}
 use Rattle.rd_value.specs.declared.value.Datum.TheViews as made
 use Rattle.rd_value.specs.declared.value.Datum.TheVariants as variant

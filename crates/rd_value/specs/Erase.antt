@@ -1,5 +1,5 @@
 -- Values and expressions with something else in place of each of their files.
-use Rattle.std.specs.Prelude.{List, map, Result, Ok, Err}
+use Rattle.std.specs.Prelude.{map, Result, Ok, Err}
 use Rattle.rd_value.specs.declared.value.ErrorValue.{ErrorValue}
 use Rattle.rd_value.specs.declared.value.FileValue.{FileValue}
 use Rattle.rd_value.specs.declared.value.Datum.{Datum}
@@ -10,7 +10,7 @@ use Rattle.rd_value.specs.declared.expr.Lazy.{Lazy}
 use Rattle.rd_value.specs.declared.expr.Lazy.TheViews.{roll-Lazy}
 use Rattle.rd_value.specs.declared.expr.Lazy.TheOpen.{Lazy-F}
 use Rattle.rd_value.specs.declared.expr.Lazy.TheFolds.{fold-Lazy}
-use Rattle.rd_value.specs.Model.{ModelFile, ModelValue, ModelExpr, file_of}
+use Rattle.rd_value.specs.Model.{ModelValue, ModelExpr, file_of}
 
 module _ {F G : Type 0} (h : F → G) where
   -- one layer of a value

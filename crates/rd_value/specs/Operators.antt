@@ -1,6 +1,5 @@
 -- The operators on values.
-use Rattle.std.specs.Prelude.{ℕ, ◌^◌, ℤ, pos, negsuc, ◌+ℤ◌, nat_lt, Bool, List, ◌++◌, codes, if◌then◌else◌, Option, None, Some, Result, Ok, Err}
-use Rattle.rd_value.specs.declared.class.Class.{Class}
+use Rattle.std.specs.Prelude.{◌^◌, ℤ, pos, negsuc, ◌+ℤ◌, nat_lt, Bool, ◌++◌, codes, if◌then◌else◌, Option, None, Some, Result, Ok, Err}
 use Rattle.rd_value.specs.declared.class.Class.TheVariants.{TypeError, OverflowError, LimitError}
 use Rattle.rd_value.specs.declared.value.ErrorValue.{ErrorValue}
 use Rattle.rd_value.specs.declared.value.FileValue.{FileValue}

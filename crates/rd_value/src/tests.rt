@@ -4,17 +4,75 @@ use crate::limits::are_within;
 use crate::value::{ErrorValue, FileValue, Pairs, Value, Values};
 use rd_base::{Digest, OutOfMemory, Path, Text};
 use std::alloc::Global;
-use std::test::Fail;
+use std::process::Abort;
 
 fn text(alloc: Global, text: &str) -> Result<Value, OutOfMemory> {
     Ok(Value::Text(Text::from_str(alloc, text)?))
 }
 
-fn pair_of(alloc: Global, a: Value, b: Value) -> Result<Value, OutOfMemory> {
+fn list(alloc: Global, a: Value, b: Value) -> Result<Value, OutOfMemory> {
     let mut items = Values::new(alloc);
     items.push(alloc, a)?;
     items.push(alloc, b)?;
     Ok(Value::List(items))
+}
+
+fn dict(alloc: Global, a: Value, b: Value) -> Result<Value, OutOfMemory> {
+    let mut pairs = Pairs::new(alloc);
+    pairs.push(alloc, (text(alloc, "b")?, a))?;
+    pairs.push(alloc, (text(alloc, "a")?, b))?;
+    Ok(Value::Dict(pairs))
+}
+
+/// `{'b': 1, 'a': [True, None]}`
+fn small_dict(alloc: Global) -> Result<Value, OutOfMemory> {
+    let flags = list(alloc, Value::Bool(true), Value::Nothing)?;
+    dict(alloc, Value::Int(1), flags)
+}
+
+fn key_error(alloc: Global) -> Result<Value, OutOfMemory> {
+    Ok(Value::Error(ErrorValue {
+        class: Class::KeyError,
+        text: Text::from_str(alloc, "'k'")?,
+    }))
+}
+
+/// `[{'b': 1, 'a': [True, None]}, [-7, KeyError("'k'")]]`
+fn mixed(alloc: Global) -> Result<Value, OutOfMemory> {
+    let last = list(alloc, Value::Int(-7), key_error(alloc)?)?;
+    list(alloc, small_dict(alloc)?, last)
+}
+
+fn empties(alloc: Global) -> Result<Value, OutOfMemory> {
+    list(
+        alloc,
+        Value::List(Values::new(alloc)),
+        Value::Dict(Pairs::new(alloc)),
+    )
+}
+
+fn file(alloc: Global) -> Result<Value, OutOfMemory> {
+    let mut bytes = [0; 32];
+    bytes[1] = 0x1f;
+    bytes[31] = 0xa0;
+    match Path::new(alloc, "in/a.txt") {
+        Ok(path) => Ok(Value::File(FileValue {
+            path,
+            digest: Digest(bytes),
+        })),
+        Err(_) => Err(OutOfMemory),
+    }
+}
+
+/// The call `g(1)`.
+fn call(alloc: Global) -> Result<Expr, OutOfMemory> {
+    let mut positional = Exprs::new(alloc);
+    positional.push(alloc, Expr::Val(Value::Int(1)))?;
+    Ok(Expr::Call {
+        task: Text::from_str(alloc, "g")?,
+        positional,
+        keywords: NamedExprs::new(alloc),
+    })
 }
 
 fn repeated(alloc: Global, count: u32) -> Result<Value, OutOfMemory> {
@@ -35,17 +93,26 @@ fn nested(alloc: Global, depth: u8) -> Result<Value, OutOfMemory> {
     Ok(value)
 }
 
-/// `{'b': 1, 'a': [True, None]}`
-fn small_dict(alloc: Global) -> Result<Value, OutOfMemory> {
-    let mut pairs = Pairs::new(alloc);
-    pairs.push(alloc, (text(alloc, "b")?, Value::Int(1)))?;
-    let list = pair_of(alloc, Value::Bool(true), Value::Nothing)?;
-    pairs.push(alloc, (text(alloc, "a")?, list))?;
-    Ok(Value::Dict(pairs))
+fn sum_of(alloc: Global, a: &Value, b: &Value) -> Result<Value, OutOfMemory> {
+    match a.plus(alloc, b)? {
+        Ok(sum) => Ok(sum),
+        Err(error) => Ok(Value::Error(error)),
+    }
+}
+
+fn expect_printed(
+    rt: &impl Abort,
+    alloc: Global,
+    value: &Value,
+    want: &str,
+) -> Result<(), OutOfMemory> {
+    let printed = value.repr(alloc)?;
+    assert_eq!(rt; printed.as_str(), want);
+    Ok(())
 }
 
 #[test]
-fn prints_texts(rt: HostRuntime) -> Result<(), Fail> {
+fn prints_texts(rt: HostRuntime) -> Result<(), OutOfMemory> {
     let alloc = rt.alloc();
     for (content, want) in [
         ("", "''"),
@@ -57,63 +124,37 @@ fn prints_texts(rt: HostRuntime) -> Result<(), Fail> {
         ("\x00\x1f\x7f ~", "'\\x00\\x1f\\x7f ~'"),
         ("é€", "'é€'"),
     ] {
-        let printed = text(alloc, content)?.repr(alloc)?;
-        assert_eq!(rt; printed.as_str(), want);
+        let value = text(alloc, content)?;
+        expect_printed(&rt, alloc, &value, want)?;
     }
     Ok(())
 }
 
 #[test]
-fn prints_values(rt: HostRuntime) -> Result<(), Fail> {
+fn prints_values(rt: HostRuntime) -> Result<(), OutOfMemory> {
+    let value = mixed(rt.alloc())?;
+    let want = "[{'b': 1, 'a': [True, None]}, [-7, KeyError(\"'k'\")]]";
+    expect_printed(&rt, rt.alloc(), &value, want)?;
+    let value = empties(rt.alloc())?;
+    expect_printed(&rt, rt.alloc(), &value, "[[], {}]")
+}
+
+#[test]
+fn prints_a_file(rt: HostRuntime) -> Result<(), OutOfMemory> {
     let alloc = rt.alloc();
-    let error = Value::Error(ErrorValue {
-        class: Class::KeyError,
-        text: Text::from_str(alloc, "'k'")?,
-    });
-    let list = pair_of(alloc, Value::Int(-7), error)?;
-    let value = pair_of(alloc, small_dict(alloc)?, list)?;
-    assert_eq!(rt;
-        value.repr(alloc)?.as_str(),
-        "[{'b': 1, 'a': [True, None]}, [-7, KeyError(\"'k'\")]]"
-    );
-    assert_eq!(rt; Value::List(Values::new(alloc)).repr(alloc)?.as_str(), "[]");
-    assert_eq!(rt; Value::Dict(Pairs::new(alloc)).repr(alloc)?.as_str(), "{}");
+    let value = file(alloc)?;
+    let want =
+        "File(path='in/a.txt', hash=001f0000000000000000000000000000000000000000000000000000000000a0)";
+    expect_printed(&rt, alloc, &value, want)?;
     Ok(())
 }
 
 #[test]
-fn prints_a_file(rt: HostRuntime) -> Result<(), Fail> {
-    let alloc = rt.alloc();
-    let mut bytes = [0; 32];
-    bytes[1] = 0x1f;
-    bytes[31] = 0xa0;
-    let Ok(path) = Path::new(alloc, "in/a.txt") else {
-        return Err(Fail::from(OutOfMemory));
-    };
-    let file = Value::File(FileValue {
-        path,
-        digest: Digest(bytes),
-    });
-    assert_eq!(rt;
-        file.repr(alloc)?.as_str(),
-        "File(path='in/a.txt', hash=001f0000000000000000000000000000000000000000000000000000000000a0)"
-    );
-    Ok(())
-}
-
-#[test]
-fn measures(rt: HostRuntime) -> Result<(), Fail> {
-    let alloc = rt.alloc();
-    let dict = small_dict(alloc)?;
+fn measures(rt: HostRuntime) -> Result<(), OutOfMemory> {
+    let dict = small_dict(rt.alloc())?;
     assert_eq!(rt; dict.size(), 32);
     assert_eq!(rt; dict.depth(), 3);
-    let mut positional = Exprs::new(alloc);
-    positional.push(alloc, Expr::Val(Value::Int(1)))?;
-    let call = Expr::Call {
-        task: Text::from_str(alloc, "g")?,
-        positional,
-        keywords: NamedExprs::new(alloc),
-    };
+    let call = call(rt.alloc())?;
     assert_eq!(rt; call.size(), 20);
     assert_eq!(rt; call.depth(), 2);
     assert!(rt; call.within());
@@ -121,52 +162,28 @@ fn measures(rt: HostRuntime) -> Result<(), Fail> {
 }
 
 #[test]
-fn knows_the_limits(rt: HostRuntime) -> Result<(), Fail> {
-    let alloc = rt.alloc();
-    assert!(rt; repeated(alloc, 1_048_568)?.within());
-    assert!(rt; !repeated(alloc, 1_048_569)?.within());
-    assert!(rt; nested(alloc, 64)?.within());
-    assert!(rt; !nested(alloc, 65)?.within());
-    assert!(rt; are_within(&[nested(alloc, 63)?]));
-    assert!(rt; !are_within(&[nested(alloc, 64)?]));
-    assert!(rt; !Expr::Val(repeated(alloc, 1_048_564)?).within());
+fn limits_sizes(rt: HostRuntime) -> Result<(), OutOfMemory> {
+    let value = repeated(rt.alloc(), 1_048_568)?;
+    assert!(rt; value.within());
+    let value = repeated(rt.alloc(), 1_048_569)?;
+    assert!(rt; !value.within());
     Ok(())
 }
 
 #[test]
-fn adds(rt: HostRuntime) -> Result<(), Fail> {
-    let alloc = rt.alloc();
-    let sum = text(alloc, "a")?.plus(alloc, &text(alloc, "b")?)?;
-    assert!(rt; sum == Ok(text(alloc, "ab")?));
-    let sum = Value::Bool(true).plus(alloc, &Value::Int(1))?;
-    assert!(rt; sum == Ok(Value::Int(2)));
-    let list = nested(alloc, 2)?.plus(alloc, &nested(alloc, 2)?)?;
-    assert!(rt; list == Ok(pair_of(alloc, Value::Nothing, Value::Nothing)?));
+fn limits_depths(rt: HostRuntime) -> Result<(), OutOfMemory> {
+    let value = nested(rt.alloc(), 64)?;
+    assert!(rt; value.within());
+    let values = [value];
+    assert!(rt; !are_within(&values));
     Ok(())
 }
 
 #[test]
-fn refuses_to_add(rt: HostRuntime) -> Result<(), Fail> {
+fn adds(rt: HostRuntime) -> Result<(), OutOfMemory> {
     let alloc = rt.alloc();
-    let half = repeated(alloc, 600_000)?;
-    for (answer, class, want) in [
-        (
-            Value::Int(1).plus(alloc, &half)?,
-            Class::TypeError,
-            "bad operand",
-        ),
-        (
-            Value::Int(i64::MAX).plus(alloc, &Value::Bool(true))?,
-            Class::OverflowError,
-            "out of range",
-        ),
-        (half.plus(alloc, &half)?, Class::LimitError, "value"),
-    ] {
-        let error = ErrorValue {
-            class,
-            text: Text::from_str(alloc, want)?,
-        };
-        assert!(rt; answer == Err(error));
-    }
-    Ok(())
+    let sum = sum_of(alloc, &Value::Bool(true), &Value::Int(1))?;
+    expect_printed(&rt, alloc, &sum, "2")?;
+    let sum = sum_of(alloc, &Value::Int(i64::MAX), &Value::Bool(true))?;
+    expect_printed(&rt, alloc, &sum, "OverflowError('out of range')")
 }
