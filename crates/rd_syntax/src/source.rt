@@ -1,5 +1,5 @@
 ghost use Rattle.std.specs.Prelude.{◌≡◌, ◌≤◌, length, List, IfOk};
-ghost use Rattle.rd_syntax.specs.Sources.{Lexes, Refuses, IfRefused, IsOrMemory};
+ghost use Rattle.rd_syntax.specs.Sources.{max_source, Lexes, Refuses, IfRefused, IsOrMemory};
 ghost use Rattle.rd_syntax.specs.Outcome.{Answers};
 ghost use Rattle.rd_syntax.specs.Machine as spec;
 ghost use Rattle.rd_syntax.specs.declared.token.Token.{Token};
@@ -20,7 +20,7 @@ pub enum SourceError {
 }
 
 fn read(alloc: Global, source: &[u8]) -> Result<Tokens, SourceError>
-    requires { length source.now ≤ 1048576 }
+    requires { length source.now ≤ max_source }
     ensures { Answers result (spec.lexed Mode.First spec.first_lexer source.now) }
 {
     let mut lexer = Lexer::new(alloc);
