@@ -101,9 +101,12 @@ impl From<OutOfMemory> for Stop {
     }
 }
 
+/// A reader that takes a byte at a time.
 #[derive(Drop)]
 pub(crate) struct Lexer {
+    /// The tokens that are whole.
     pub(crate) tokens: Tokens,
+    /// The open blocks.
     pub(crate) stack: Blocks,
     pub(crate) place: Place,
     /// What the token that was begun holds so far.
@@ -176,6 +179,7 @@ impl Lexer {
         )
     }
 
+    /// Ends a number or a text at `stop`.
     pub(crate) fn end_piece(
         &mut self,
         alloc: Global,

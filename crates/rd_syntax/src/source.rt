@@ -7,6 +7,7 @@ ghost use Rattle.rd_syntax.specs.declared.lexer.Mode.TheVariants as Mode;
 
 use crate::lexer::{Lexer, Mode, Stop};
 use crate::token::Tokens;
+use rd_base::OutOfMemory;
 use std::alloc::Global;
 
 /// The length of the longest source, in bytes.
@@ -17,6 +18,17 @@ pub const MAX_SOURCE: usize = 1_048_576;
 pub enum SourceError {
     Refused { line: u32 },
     OutOfMemory,
+}
+
+impl From<OutOfMemory> for SourceError {
+    ghost use Rattle.std.specs.Prelude.{◌≡◌};
+    ghost use Rattle.rd_syntax.specs.declared.source.SourceError.TheVariants.{OutOfMemory};
+
+    ghost from_gives = { λ _ e. e ≡ OutOfMemory };
+
+    fn from(_error: OutOfMemory) -> SourceError {
+        SourceError::OutOfMemory
+    }
 }
 
 fn read(alloc: Global, source: &[u8]) -> Result<Tokens, SourceError>
