@@ -1,6 +1,6 @@
 -- Which bytes a class has.
 use Rattle.std.specs.Prelude.{◌==◌, nat_le}
-use Rattle.std.proofs.Common.{◌≡◌, ℕ, ◌+◌, ◌-◌, ◌<◌, ◌≤◌, Bool, true, false, cond, ◌||◌, List, [], ◌∷◌, ◌++◌, Option, Some, None, refl, sym, ap, subst, ◌∙◌, arith, rules, tests, eqb-true, leb-true, leb-false}
+use Rattle.std.proofs.Common.{◌≡◌, ℕ, ◌+◌, ◌-◌, ◌<◌, ◌≤◌, Bool, true, false, cond, ◌&&◌, ◌||◌, List, [], ◌∷◌, ◌++◌, Option, Some, None, refl, sym, ap, subst, ◌∙◌, arith, rules, tests, eqb-true, leb-true, leb-false}
 use Rattle.std.proofs.lemmas.Str.{IsUtf8-append, IsUtf8-encode, encode_ascii}
 use Rattle.std.specs.Str.{IsUtf8}
 use lib.Utf8.{low_scalar}
@@ -8,7 +8,7 @@ use Rattle.rd_syntax.specs.declared.class.Class.{Class}
 use Rattle.rd_syntax.specs.declared.class.Class.TheVariants as c
 use Rattle.rd_syntax.specs.declared.class.Quote.{Quote}
 use Rattle.rd_syntax.specs.declared.class.Quote.TheVariants as q
-use Rattle.rd_syntax.specs.Bytes.{between, class_of, quote_byte, other_quote, is_quote, is_plain, is_remark, is_single, escape_of, hex_of}
+use Rattle.rd_syntax.specs.Bytes.{between, class_of, quote_byte, other_quote, is_quote, is_plain, is_remark, is_single, is_double, other_half, escape_of, hex_of}
 use Rattle.rd_syntax.proofs.Encoded.{between_true}
 
 -- ---- from the byte to the class
@@ -187,3 +187,27 @@ hex_range b =
 pub hex_low : (b x : ℕ) → hex_of b ≡ Some x → x < 16
 unfolding Low
 hex_low b x e = subst (λ (o : Option ℕ). Low o 16) e (hex_range b)
+
+-- ---- signs
+
+pub two_ascii : (a b : ℕ) → a < 128 → b < 128 → IsUtf8 (a ∷ b ∷ [])
+two_ascii a b h k = IsUtf8-append (a ∷ []) (b ∷ []) (ascii a h) (ascii b k)
+
+pub half_low : (a : ℕ) → other_half a < 128
+half_low a = way (a == 47)
+  where
+    way : (t : Bool) → cond t 47 61 < 128
+    way true = omega arith
+    way false = omega arith
+
+pub double_low : (a b : ℕ) → is_double a b ≡ true → b < 128
+double_low a b h = way (b == 61) (b == 62) refl refl h
+  where
+    way : (t u : Bool) → (b == 61) ≡ t → (b == 62) ≡ u → is_double a b ≡ true → b < 128
+    way true u e f h = let same : b ≡ 61 = eqb-true b 61 e in omega arith
+    way false true e f h = let same : b ≡ 62 = eqb-true b 62 f in omega arith
+    way false false e f h = absurd (let none : is_double a b ≡ false = rw (e, f) (last (a == 45)) in let wrong : true ≡ false = sym h ∙ none in cc)
+      where
+        last : (t : Bool) → (t && false) ≡ false
+        last true = refl
+        last false = refl

@@ -38,6 +38,7 @@ abbrev pub quote_byte : Quote → ℕ
 quote_byte q.Single = 39
 quote_byte q.Double = 34
 
+-- the quote of the other kind
 abbrev pub other_quote : Quote → Quote
 other_quote q.Single = q.Double
 other_quote q.Double = q.Single
@@ -49,11 +50,13 @@ in_word c.Underscore = true
 in_word c.Digit = true
 in_word _ = false
 
+-- what a name begins with: letters and `_`
 abbrev pub begins_word : Class → Bool
 begins_word c.Letter = true
 begins_word c.Underscore = true
 begins_word _ = false
 
+-- a quote of either kind
 abbrev pub is_quote : Class → Bool
 is_quote (c.Quote quote) = true
 is_quote _ = false
@@ -80,9 +83,11 @@ is_remark c.Return = false
 is_remark c.High = false
 is_remark _ = true
 
+-- `(`, `[` and `{`
 abbrev pub is_open : ℕ → Bool
 is_open b = b == 40 || (b == 91 || b == 123)
 
+-- `)`, `]` and `}`
 abbrev pub is_close : ℕ → Bool
 is_close b = b == 41 || (b == 93 || b == 125)
 

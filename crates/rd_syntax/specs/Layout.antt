@@ -10,6 +10,7 @@ use Rattle.rd_syntax.specs.declared.layout.Position.{Position}
 use Rattle.rd_syntax.specs.declared.layout.Place.{Place}
 use Rattle.rd_syntax.specs.declared.layout.Place.TheVariants.{Before, Start, Inside}
 
+-- the source's start
 abbrev pub first_position : Position
 first_position = record { at = 0; line = 1; last = 1 }
 
@@ -22,6 +23,7 @@ abbrev pub along : Position → List ℕ → Position
 along p [] = p
 along p (b ∷ bs) = along (next p b) bs
 
+-- the bytes from the one place to the other
 abbrev pub between : Position → Position → Span
 between a b = record { start = a.at; end = b.at }
 
@@ -80,6 +82,7 @@ enter_at (Inside depth) stack here = Some (record { stack = stack; opens = [] })
 enter_at (Start from false) stack here = line_at (here.at - from) stack here
 enter_at (Start from true) stack here = None
 
+-- a token may begin at this spot, and does this to the blocks
 abbrev pub enter : Spot → Option Entered
 enter w = enter_at w.place w.stack w.here
 
@@ -110,6 +113,7 @@ line_tokens (Start from tab) a b = []
 line_tokens (Inside zero) a b = mark k.Newline a b ∷ []
 line_tokens (Inside (suc depth)) a b = []
 
+-- one bracket fewer, where one is open
 abbrev pub down : ℕ → ℕ
 down zero = zero
 down (suc n) = n
@@ -126,5 +130,6 @@ ending_at (Start from tab) stack here = Some (dedents (length stack) here.last h
 ending_at (Inside zero) stack here = Some (mark_at k.Newline here.last here ∷ (dedents (length stack) here.last here ++ mark_at k.End here.last here ∷ []))
 ending_at (Inside (suc depth)) stack here = None
 
+-- the tokens at the source's end, unless a bracket is open
 abbrev pub ending : Spot → Option (List Token)
 ending w = ending_at w.place w.stack w.here

@@ -18,6 +18,7 @@ use Rattle.rd_syntax.specs.Words.{word_kind, ends_in_letter}
 use Rattle.rd_syntax.specs.Layout.{first_position, next, token, Spot, Entered, enter, past_space, past_line, line_tokens, past_sign, depth_of, ending}
 use Rattle.rd_syntax.specs.Utf8.{lead_of, follows, rest_of}
 
+-- where the lexer stands
 abbrev pub spot : Lexer → Spot
 spot s = record { stack = s.stack; place = s.place; here = s.here }
 
@@ -25,10 +26,12 @@ spot s = record { stack = s.stack; place = s.place; here = s.here }
 abbrev pub Step : Type 0
 Step = Option (Mode × Lexer)
 
+-- the lexer with what a first token did to the blocks
 abbrev pub entered_lexer : Lexer → Option Entered → Option Lexer
 entered_lexer s None = None
 entered_lexer s (Some e) = Some (record s { tokens = s.tokens ++ e.opens; stack = e.stack })
 
+-- the lexer inside a token that begins here, if one may
 abbrev pub opened : Mode → List ℕ → Lexer → Option Entered → Step
 opened mode text s None = None
 opened mode text s (Some e) = Some (mode, record s { tokens = s.tokens ++ e.opens; stack = e.stack; place = Inside (depth_of s.place); text = text; began = s.here })
@@ -60,17 +63,21 @@ begin _ s b = None
 abbrev pub ended : TokenKind → List ℕ → Position → Lexer → Lexer
 ended kind text stop s = record s { tokens = s.tokens ++ token kind text s.began stop ∷ []; text = [] }
 
+-- behind a name or a reserved word
 abbrev pub end_word : Lexer → Lexer
 end_word s = ended (word_kind s.text) s.text s.here s
 
+-- behind a number
 abbrev pub end_number : Lexer → Lexer
 end_number s = ended k.Int s.text s.here s
 
+-- a sign may open or close a bracket
 abbrev pub sign_place : List ℕ → Place → Place
 sign_place text (Before from) = Before from
 sign_place text (Start from tab) = Start from tab
 sign_place text (Inside depth) = Inside (past_sign text depth)
 
+-- behind a sign
 abbrev pub end_sign : List ℕ → Position → Lexer → Lexer
 end_sign text stop s = record s { tokens = s.tokens ++ token k.Sign text s.began stop ∷ []; place = sign_place text s.place }
 
@@ -78,6 +85,7 @@ end_sign text stop s = record s { tokens = s.tokens ++ token k.Sign text s.began
 abbrev pub written : Lexer → List ℕ → Lexer
 written s bs = record s { text = s.text ++ bs }
 
+-- one more byte of the piece's text
 abbrev pub pushed : Lexer → ℕ → Lexer
 pushed s b = written s (b ∷ [])
 
@@ -101,10 +109,12 @@ abbrev pub quoted_at : Quote → Bool → Option Tail → Mode
 quoted_at quote long None = m.Quoted quote long
 quoted_at quote long (Some t) = m.QuotedTail quote long t
 
+-- inside a comment, behind a whole character or inside one
 abbrev pub comment_at : Option Tail → Mode
 comment_at None = m.Comment
 comment_at (Some t) = m.CommentTail t
 
+-- the first byte of a character past ASCII
 abbrev pub lead_step : (Option Tail → Mode) → Option Tail → Lexer → Step
 lead_step at None s = None
 lead_step at (Some t) s = Some (at (Some t), s)
@@ -128,28 +138,34 @@ quoted_step quote long c.Return s b = long_step long (m.QuotedReturn quote long)
 quoted_step quote long c.High s b = lead_step (quoted_at quote long) (lead_of b) (pushed s b)
 quoted_step quote long κ s b = Some (m.Quoted quote long, pushed s b)
 
+-- behind a carriage return in a long text
 abbrev pub quoted_return_step : Quote → Bool → Class → Lexer → Step
 quoted_return_step quote long c.Feed s = Some (m.Quoted quote long, pushed s 10)
 quoted_return_step quote long κ s = None
 
+-- behind a backslash
 abbrev pub escape_step : Quote → Bool → Option ℕ → Lexer → ℕ → Step
 escape_step quote long (Some x) s b = Some (m.Quoted quote long, pushed s x)
 escape_step quote long None s b = if b == 120 then Some (m.Hex quote long, s) else None
 
+-- behind a backslash and `x`
 abbrev pub hex_step : Quote → Bool → Option ℕ → Lexer → Step
 hex_step quote long (Some high) s = Some (m.HexDigit quote long high, s)
 hex_step quote long None s = None
 
+-- behind the first hexadecimal digit
 abbrev pub digit_step : Quote → Bool → ℕ → Option ℕ → Lexer → Step
 digit_step quote long high (Some low) s = Some (m.Quoted quote long, written s (encode_utf8 (16 * high + low)))
 digit_step quote long high None s = None
 
+-- inside a comment
 abbrev pub comment_step : Class → Lexer → ℕ → Step
 comment_step c.Feed s b = begin c.Feed s b
 comment_step c.Return s b = begin c.Return s b
 comment_step c.High s b = lead_step comment_at (lead_of b) s
 comment_step κ s b = Some (m.Comment, s)
 
+-- behind a carriage return outside of texts
 abbrev pub return_step : Class → Lexer → ℕ → Step
 return_step c.Feed s b = Some (m.Between, end_line s.began s b)
 return_step κ s b = None
@@ -158,6 +174,7 @@ return_step κ s b = None
 abbrev pub at_start : Lexer → Position → Lexer
 at_start s p = record s { place = Before p.at }
 
+-- a byte in each mode
 abbrev pub step_in : Mode → Lexer → ℕ → Step
 step_in m.First s b = if b == 239 then Some (m.MarkTwo, s) else begin (class_of b) s b
 step_in m.MarkTwo s b = if b == 187 then Some (m.MarkThree, s) else None
@@ -200,6 +217,7 @@ closed_in (m.Twice quote) s = ended k.Text s.text s.here s
 closed_in (m.Sign a) s = end_sign (a ∷ []) s.here s
 closed_in _ s = s
 
+-- all the tokens
 abbrev pub finished : Lexer → Option (List Token) → Option (List Token)
 finished s None = None
 finished s (Some ts) = Some (s.tokens ++ ts)
@@ -209,19 +227,24 @@ abbrev pub ended_lexer : Lexer → Option (List Token) → Option Lexer
 ended_lexer s None = None
 ended_lexer s (Some ts) = Some (record s { tokens = s.tokens ++ ts; stack = [] })
 
+-- all the tokens at the source's end
 abbrev pub finish : Mode → Lexer → Option (List Token)
 finish mode s = finished (closed_in mode s) (finish_in mode (closed_in mode s))
 
+-- the lexer at another place
 abbrev pub put : Lexer → Position → Lexer
 put s p = record s { here = p }
 
+-- the lexer behind one byte
 abbrev pub moved : Lexer → ℕ → Lexer
 moved s b = put s (next s.here b)
 
+-- the tokens, or the line where there are none
 abbrev pub answer : ℕ → Option (List Token) → Result (List Token) ℕ
 answer line None = Err line
 answer line (Some ts) = Ok ts
 
+-- go on behind a byte, unless it was refused
 abbrev pub follow : ℕ → Step → (Mode → Lexer → Result (List Token) ℕ) → Result (List Token) ℕ
 follow line None go = Err line
 follow line (Some x) go = go x.0 x.1
@@ -231,5 +254,6 @@ abbrev pub lexed : Mode → Lexer → List ℕ → Result (List Token) ℕ
 lexed mode s [] = answer s.here.last (finish mode s)
 lexed mode s (b ∷ bs) = follow s.here.line (step_in mode s b) (λ n x. lexed n (put x (next s.here b)) bs)
 
+-- the lexer at the source's start
 abbrev pub first_lexer : Lexer
 first_lexer = record { tokens = []; stack = []; place = Before 0; text = []; here = first_position; began = first_position }

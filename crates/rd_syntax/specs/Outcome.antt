@@ -24,14 +24,17 @@ abbrev pub Gives : Result Mode Stop → Lexer → Step → Type 0
 Gives (Ok mode) s step = step ≡ Some (mode, s)
 Gives (Err e) s step = Fails e step
 
+-- the lexer is now this one, unless memory ran out
 abbrev pub Becomes : Result (Unit {0}) Stop → Lexer → Option Lexer → Type 0
 Becomes (Ok u) s step = step ≡ Some s
 Becomes (Err e) s step = Fails e step
 
+-- what was made is this, unless memory ran out
 abbrev pub Ends : {A : Type 0} → Result A Stop → Option A → Type 0
 Ends (Ok ts) o = o ≡ Some ts
 Ends (Err e) o = Fails e o
 
+-- a refusal is the definition's
 abbrev pub FailsSo : {A : Type 0} → Result (Unit {0}) Stop → Option A → Type 0
 FailsSo (Ok u) o = Unit {0}
 FailsSo (Err e) o = Fails e o

@@ -11,6 +11,7 @@ use Rattle.rd_syntax.specs.Words.{word_kind, ends_in_letter}
 use Rattle.rd_syntax.specs.Layout.{along, token, Spot, Entered, enter, past_space, past_line, line_tokens, past_sign, depth_of}
 use Rattle.rd_syntax.specs.Texts.{Item, spell_items, value_items, AreItems, AreCharacters}
 
+-- what a source is made of
 pub data Piece : Type 0 where
   Space : Piece
   Tab : Piece
@@ -31,13 +32,15 @@ pub data Piece : Type 0 where
 abbrev pub fence : Quote → List ℕ
 fence quote = quote_byte quote ∷ quote_byte quote ∷ quote_byte quote ∷ []
 
--- a text in one quote, in three
+-- a text in one quote
 abbrev pub spell_short : Quote → List Item → List ℕ
 spell_short quote items = quote_byte quote ∷ (spell_items quote items ++ quote_byte quote ∷ [])
 
+-- a text in three quotes
 abbrev pub spell_long : Quote → List Item → List ℕ
 spell_long quote items = fence quote ++ (spell_items quote items ++ fence quote)
 
+-- the bytes of a piece, among them 32 for a space, 9 for a tab, 35 for `#`, 10 for a line feed and 13 for a carriage return
 abbrev pub spell : Piece → List ℕ
 spell Space = 32 ∷ []
 spell Tab = 9 ∷ []
@@ -61,6 +64,7 @@ abbrev pub Digits : ℕ → List ℕ → Type 0
 Digits value [] = Unit {0}
 Digits value (b ∷ more) = (class_of b ≡ c.Digit) × (continues_number value b ≡ true) × Digits (number_with value b) more
 
+-- a piece is what its kind allows
 abbrev pub IsPiece : Piece → Type 0
 IsPiece (Comment characters) = AreCharacters characters
 IsPiece (Word b more) = (begins_word (class_of b) ≡ true) × Rest more
@@ -71,6 +75,7 @@ IsPiece (Short quote items) = AreItems false 0 items
 IsPiece (Long quote items) = AreItems true 0 items
 IsPiece _ = Unit {0}
 
+-- a name ends where no more of it follows, and no quote right behind a letter
 abbrev pub bars_word : List ℕ → ℕ → Bool
 bars_word text b = in_word (class_of b) || (is_quote (class_of b) && ends_in_letter text)
 
@@ -94,6 +99,7 @@ entered deeper kind text spelled w None = None
 entered deeper kind text spelled w (Some e) =
     Some (record { stack = e.stack; place = Inside (deeper (depth_of w.place)); here = along w.here spelled }, e.opens ++ token kind text w.here (along w.here spelled) ∷ [])
 
+-- a token that is no bracket
 abbrev pub same_depth : ℕ → ℕ
 same_depth n = n
 

@@ -19,6 +19,7 @@ Reads w (p ∷ ps) bytes ts =
 abbrev pub spot_behind : List ℕ → Spot
 spot_behind mark = record { stack = []; place = Before (along first_position mark).at; here = along first_position mark }
 
+-- the bytes of the byte order mark
 abbrev pub byte_order_mark : List ℕ
 byte_order_mark = 239 ∷ 187 ∷ 191 ∷ []
 
@@ -49,20 +50,26 @@ pub record IsRefused (source : List ℕ) (line : ℕ) : Type 0 where
   pub stuck : IsStuck before after
   pub at_line : line ≡ line_of before after
 
+-- the length of the longest source
+abbrev pub max_source : ℕ
+max_source = 1048576
+
 -- the source is short enough, and has these tokens
 pub record Lexes (source : List ℕ) (ts : List Token) : Type 0 where
-  pub short : length source ≤ 1048576
+  pub short : length source ≤ max_source
   pub has : HasTokens source ts
 
 -- the source is refused at this line, which is the first for one that is too long
 abbrev pub Refuses : List ℕ → ℕ → Type 0
-Refuses source line = ((1048576 < length source) × (line ≡ 1)) ⊎ IsRefused source line
+Refuses source line = ((max_source < length source) × (line ≡ 1)) ⊎ IsRefused source line
 
+-- a fact on the line of a refusal
 abbrev pub IfRefused : {X : Type 0} → Result X SourceError → (ℕ → Type 0) → Type 0
 IfRefused (Ok e) p = Unit {0}
 IfRefused (Err err.OutOfMemory) p = Unit {0}
 IfRefused (Err (err.Refused line)) p = p line
 
+-- this was returned, unless memory ran out
 abbrev pub IsOrMemory : {X : Type 0} → Result X SourceError → X → Type 0
 IsOrMemory (Ok e) f = e ≡ f
 IsOrMemory (Err err.OutOfMemory) f = Unit {0}

@@ -25,6 +25,7 @@ pub data Item : Type 0 where
   -- a backslash, `x` and two digits, and the values of the digits
   Hex : ℕ → ℕ → ℕ → ℕ → Item
 
+-- the bytes in the source: 92 is the backslash, 120 is `x`
 abbrev pub spell_item : Quote → Item → List ℕ
 spell_item quote (Plain c) = encode_utf8 c
 spell_item quote OtherQuote = quote_byte (other_quote quote) ∷ []
@@ -34,6 +35,7 @@ spell_item quote ReturnEnd = 13 ∷ 10 ∷ []
 spell_item quote (Escaped b c) = 92 ∷ b ∷ []
 spell_item quote (Hex a b high low) = 92 ∷ 120 ∷ a ∷ b ∷ []
 
+-- the bytes that it stands for
 abbrev pub value_item : Quote → Item → List ℕ
 value_item quote (Plain c) = encode_utf8 c
 value_item quote OtherQuote = quote_byte (other_quote quote) ∷ []
@@ -53,14 +55,17 @@ IsItem long n ReturnEnd = long ≡ true
 IsItem long n (Escaped b c) = escape_of b ≡ Some c
 IsItem long n (Hex a b high low) = (hex_of a ≡ Some high) × (hex_of b ≡ Some low)
 
+-- how many of the text's own quotes stand in a row behind it
 abbrev pub quotes_after : Item → ℕ → ℕ
 quotes_after OwnQuote n = suc n
 quotes_after _ n = 0
 
+-- the bytes between the quotes
 abbrev pub spell_items : Quote → List Item → List ℕ
 spell_items quote [] = []
 spell_items quote (x ∷ xs) = spell_item quote x ++ spell_items quote xs
 
+-- the value of the text
 abbrev pub value_items : Quote → List Item → List ℕ
 value_items quote [] = []
 value_items quote (x ∷ xs) = value_item quote x ++ value_items quote xs

@@ -101,9 +101,12 @@ impl From<OutOfMemory> for Stop {
     }
 }
 
+/// A reader that takes a byte at a time.
 #[derive(Drop)]
 pub(crate) struct Lexer {
+    /// The tokens that are whole.
     pub(crate) tokens: Tokens,
+    /// The open blocks.
     pub(crate) stack: Blocks,
     pub(crate) place: Place,
     /// What the token that was begun holds so far.
@@ -111,15 +114,6 @@ pub(crate) struct Lexer {
     pub(crate) here: Position,
     /// Where that token began.
     pub(crate) began: Position,
-}
-
-/// The text of these bytes.
-fn text_of(alloc: Global, bytes: Bytes) -> Result<Text, OutOfMemory>
-    requires { IsUtf8 bytes }
-    ensures { IfOk result (λ text. text ≡ bytes) }
-{
-    let bytes = bytes.into_vec(alloc)?;
-    Text::from_string(alloc, String::from_utf8(bytes).unwrap())
 }
 
 impl Lexer {
@@ -160,7 +154,8 @@ impl Lexer {
         ensures text { IfOk result (λ text. text ≡ self.old.text) }
         ensures rest { OnOk result (self.new ≡ record self.old { text = [] }) }
     {
-        text_of(alloc, replace(&mut self.text, Bytes::new(alloc)))
+        let bytes = replace(&mut self.text, Bytes::new(alloc)).into_vec(alloc)?;
+        Text::from_string(alloc, String::from_utf8(bytes).unwrap())
     }
 
     /// Appends the token that was begun, up to `stop`.
@@ -184,6 +179,7 @@ impl Lexer {
         )
     }
 
+    /// Ends a number or a text at `stop`.
     pub(crate) fn end_piece(
         &mut self,
         alloc: Global,
@@ -210,17 +206,17 @@ impl Lexer {
         self.push_token(alloc, kind, text, self.here)
     }
 
-    fn end_sign(&mut self, alloc: Global, sign: Bytes, stop: Position) -> Result<(), OutOfMemory>
+    fn end_sign(&mut self, alloc: Global, sign: &[u8], stop: Position) -> Result<(), OutOfMemory>
         requires small { IsSmall self.old.here (layout.depth_of self.old.place) }
-        requires utf8 { IsUtf8 sign }
-        ensures { OnOk result (self.new ≡ spec.end_sign sign stop self.old) }
+        requires utf8 { IsUtf8 sign.now }
+        ensures { OnOk result (self.new ≡ spec.end_sign sign.now stop self.old) }
     {
         if let Place::Inside { depth } = self.place {
             self.place = Place::Inside {
-                depth: past_sign(sign.as_slice(), depth),
+                depth: past_sign(sign, depth),
             };
         }
-        let text = text_of(alloc, sign)?;
+        let text = Text::from_str(alloc, str::from_utf8(sign).unwrap())?;
         self.push_token(alloc, TokenKind::Sign, text, stop)
     }
 
@@ -341,12 +337,10 @@ impl Lexer {
         ensures { Gives result self.new (spec.step_in (Mode.Sign first) self.old byte) }
     {
         if is_double(first, byte) {
-            let sign = Bytes::from_slice(alloc, &[first, byte])?;
-            self.end_sign(alloc, sign, self.here.next(byte))?;
+            self.end_sign(alloc, &[first, byte], self.here.next(byte))?;
             return Ok(Mode::Between);
         }
-        let sign = Bytes::from_slice(alloc, &[first])?;
-        self.end_sign(alloc, sign, self.here)?;
+        self.end_sign(alloc, &[first], self.here)?;
         self.begin(alloc, class_of(byte), byte)
     }
 
@@ -358,8 +352,7 @@ impl Lexer {
         if byte != other_half(first) {
             return Err(Stop::Refused);
         }
-        let sign = Bytes::from_slice(alloc, &[first, byte])?;
-        self.end_sign(alloc, sign, self.here.next(byte))?;
+        self.end_sign(alloc, &[first, byte], self.here.next(byte))?;
         Ok(Mode::Between)
     }
 
@@ -474,8 +467,7 @@ impl Lexer {
                 Ok(())
             }
             Mode::Sign { first } => {
-                let sign = Bytes::from_slice(alloc, &[first])?;
-                self.end_sign(alloc, sign, self.here)?;
+                self.end_sign(alloc, &[first], self.here)?;
                 Ok(())
             }
             _ => Err(Stop::Refused),

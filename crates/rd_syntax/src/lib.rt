@@ -13,3 +13,6 @@ mod words;
 
 pub use source::{MAX_SOURCE, SourceError, lex};
 pub use token::{Span, Token, TokenKind, Tokens};
+
+#[cfg(test)]
+mod tests;

@@ -1,5 +1,5 @@
 ghost use Rattle.std.specs.Prelude.{◌≡◌, ◌≤◌, length, List, IfOk};
-ghost use Rattle.rd_syntax.specs.Sources.{Lexes, Refuses, IfRefused, IsOrMemory};
+ghost use Rattle.rd_syntax.specs.Sources.{max_source, Lexes, Refuses, IfRefused, IsOrMemory};
 ghost use Rattle.rd_syntax.specs.Outcome.{Answers};
 ghost use Rattle.rd_syntax.specs.Machine as spec;
 ghost use Rattle.rd_syntax.specs.declared.token.Token.{Token};
@@ -7,6 +7,7 @@ ghost use Rattle.rd_syntax.specs.declared.lexer.Mode.TheVariants as Mode;
 
 use crate::lexer::{Lexer, Mode, Stop};
 use crate::token::Tokens;
+use rd_base::OutOfMemory;
 use std::alloc::Global;
 
 /// The length of the longest source, in bytes.
@@ -19,8 +20,19 @@ pub enum SourceError {
     OutOfMemory,
 }
 
+impl From<OutOfMemory> for SourceError {
+    ghost use Rattle.std.specs.Prelude.{◌≡◌};
+    ghost use Rattle.rd_syntax.specs.declared.source.SourceError.TheVariants.{OutOfMemory};
+
+    ghost from_gives = { λ _ e. e ≡ OutOfMemory };
+
+    fn from(_error: OutOfMemory) -> SourceError {
+        SourceError::OutOfMemory
+    }
+}
+
 fn read(alloc: Global, source: &[u8]) -> Result<Tokens, SourceError>
-    requires { length source.now ≤ 1048576 }
+    requires { length source.now ≤ max_source }
     ensures { Answers result (spec.lexed Mode.First spec.first_lexer source.now) }
 {
     let mut lexer = Lexer::new(alloc);
