@@ -3,11 +3,15 @@
 
 mod bind;
 mod body;
+mod command;
+mod disk;
 mod evaluate;
 mod lazies;
 mod lists;
 mod parse;
+mod print;
 mod raise;
+mod shown;
 mod source;
 mod tree;
 

@@ -10,7 +10,7 @@ mod expr_size;
 pub mod failure;
 pub mod limits;
 pub mod operators;
-mod repr;
+pub mod repr;
 pub mod signature;
 mod size;
 #[cfg(test)]

@@ -72,7 +72,8 @@ fn quote_of(text: &str) -> char
     }
 }
 
-fn push_quoted(out: &mut String, text: &str) -> Result<(), OutOfMemory>
+/// Adds a text in quotes, with its escapes.
+pub fn push_quoted(out: &mut String, text: &str) -> Result<(), OutOfMemory>
     ensures { OnOk result (string_bytes out.new ≡ string_bytes out.old ++ quoted text.now) }
 {
     let quote = quote_of(text);
@@ -133,8 +134,9 @@ fn push_pairs(out: &mut String, pairs: &[(Value, Value)]) -> Result<(), OutOfMem
     Ok(())
 }
 
+/// Adds the printed form of a value.
 #[cycle(repr)]
-fn push_repr(out: &mut String, value: &Value) -> Result<(), OutOfMemory>
+pub fn push_repr(out: &mut String, value: &Value) -> Result<(), OutOfMemory>
     ensures { OnOk result (string_bytes out.new ≡ string_bytes out.old ++ repr (λ f. f) value.now) }
 {
     match value {
