@@ -14,3 +14,4 @@ pub mod Tasks
 pub mod FlatTasks
 pub mod Modules
 pub mod Sources
+pub mod NameTests

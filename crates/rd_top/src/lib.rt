@@ -1,10 +1,12 @@
 //! The language: sources, their trees and what they mean.
 #![tactic(auto)]
 
+mod names;
 mod parse;
 mod source;
 mod tree;
 
+pub use names::names_are_kept;
 pub use parse::MAX_NESTING;
 pub use source::read_source;
 pub use tree::{Block, Function, Link, Module, Node, Operator, Statement};
