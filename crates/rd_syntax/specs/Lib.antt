@@ -1,0 +1,9 @@
+pub mod Bytes
+pub mod Words
+pub mod Layout
+pub mod Texts
+pub mod Pieces
+pub mod Sources
+pub mod Utf8
+pub mod Machine
+pub mod Outcome
