@@ -8,5 +8,5 @@ mod tree;
 
 pub use names::names_are_kept;
 pub use parse::MAX_NESTING;
-pub use source::read_source;
+pub use source::{one_module, read_source};
 pub use tree::{Block, Function, Link, Module, Node, Operator, Statement};

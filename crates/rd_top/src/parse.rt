@@ -1,7 +1,7 @@
 //! From tokens to trees.
 
 ghost use Rattle.std.specs.Prelude.{IfOk};
-ghost use Rattle.rd_syntax.specs.Source.{IsOrMemory};
+ghost use Rattle.rd_syntax.specs.Sources.{IsOrMemory};
 ghost use Rattle.rd_top.specs.Grammar.{IsModule};
 ghost use Rattle.rd_top.specs.declared.tree.Module.{Module};
 

@@ -1,7 +1,7 @@
 //! Whole sources.
 
-ghost use Rattle.std.specs.Prelude.{IfOk};
-ghost use Rattle.rd_syntax.specs.Source.{IsOrMemory};
+ghost use Rattle.std.specs.Prelude.{◌≡◌, ℕ, List, IfOk};
+ghost use Rattle.rd_syntax.specs.Sources.{IsOrMemory};
 ghost use Rattle.rd_top.specs.Source.{IsSource};
 ghost use Rattle.rd_top.specs.declared.tree.Module.{Module};
 
@@ -21,3 +21,11 @@ pub fn read_source(alloc: Global, source: &[u8]) -> Result<Module, SourceError>
     let tokens = lex(alloc, source)?;
     parse(alloc, &tokens)
 }
+
+/// A source has at most one module.
+pub fn one_module()
+    ensures { (source : List ℕ) (m n : Module) → IsSource source m → IsSource source n → m ≡ n }
+{}
+
+#[cfg(test)]
+mod tests;
