@@ -63,7 +63,9 @@ fn is_error_class(name: &str) -> bool
 
 /// The names as a set, if each is there once.
 fn distinct(alloc: Global, names: &[Text]) -> Result<Option<IndexSet<Text>>, OutOfMemory>
-    ensures { IfOk result (λ o. MatchOption o (¬ IsDistinct bytes_eq names.now) (λ set. (set.keys ≡ names.now) × IsDistinct bytes_eq names.now)) }
+    ensures { IfOk result (λ o. MatchOption o
+        (¬ IsDistinct bytes_eq names.now)
+        (λ set. (set.keys ≡ names.now) × IsDistinct bytes_eq names.now)) }
 {
     let mut set = IndexSet::new(alloc);
     for name in names {
