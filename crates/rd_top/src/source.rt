@@ -10,7 +10,7 @@ use crate::tree::Module;
 use rd_syntax::{SourceError, lex};
 use std::alloc::Global;
 
-/// The module of a source. It is refused where it has none.
+/// The module of a source. It is refused where it has none, at the line of the first byte without tokens, or at line 1.
 pub fn read_source(alloc: Global, source: &[u8]) -> Result<Module, SourceError>
     // What is read is the source's module.
     ensures found { IfOk result (λ m. IsSource source.now m) }
