@@ -1,8 +1,10 @@
-ghost use Rattle.std.specs.Prelude.{◌≡◌, ◌==◌, true, false, IfOk, Err};
+ghost use Rattle.std.specs.Prelude.{◌≡◌, ◌==◌, true, false, IfOk};
+ghost use Rattle.std.specs.List.{list_all};
 ghost use Rattle.std.specs.Cmp.Lexicographic.{pointwise};
 ghost use Rattle.std.proofs.Common.{rules};
 ghost use Rattle.std.specs.Cmp.Rules.{comparing, hashing};
 ghost use Rattle.std.specs.Hash as fed;
+ghost use Rattle.rd_base.specs.Path as spec;
 ghost use Rattle.rd_base.specs.Path.{is_path};
 
 use crate::copies::Copies;
@@ -12,7 +14,13 @@ use std::alloc::Global;
 use std::hash::{Hash, Hasher};
 use std::marker::Model;
 
+/// The greatest number of bytes of a path.
+pub const LONGEST: usize = 1024;
+
 /// A lawful path, which contracts see as the list of its bytes.
+///
+/// It is relative, has 1 to 1,024 bytes, no control character and no part that is empty, `.` or `..`,
+/// and doesn't lie in the program's own folder `.redun`.
 #[derive(Debug, Drop)]
 pub struct Path {
     text: Text,
@@ -29,25 +37,47 @@ impl Model for Path {
     ghost invariant = { λ p. is_path p.text ≡ true };
 }
 
+/// Why a text is made no path.
 #[derive(Clone, Copy, Debug, PartialEq, Eq)]
 pub enum PathError {
     PathRefused,
     OutOfMemory,
 }
 
+fn has_plain_bytes(text: &str) -> bool
+    ensures { result ≡ list_all spec.is_plain text.now }
+{
+    text.as_bytes()
+        .iter()
+        .all(|byte| 32 <= *byte && *byte != 127)
+}
+
+fn is_name(part: &str) -> bool
+    ensures { result ≡ spec.is_name part.now }
+{
+    !part.is_empty() && part != "." && part != ".."
+}
+
+fn has_names(text: &str) -> bool
+    ensures { result ≡ list_all spec.is_name (spec.parts text.now) }
+{
+    text.split('/').all(|part| is_name(part))
+}
+
+fn is_own(text: &str) -> bool
+    ensures { result ≡ spec.is_own text.now }
+{
+    text == ".redun" || text.starts_with(".redun/")
+}
+
 fn is_lawful(text: &str) -> bool
     ensures { result ≡ is_path text.now }
 {
-    let bytes = text.as_bytes();
-    if bytes.is_empty() || bytes.len() > 1024 {
-        return false;
-    }
-    for byte in bytes {
-        if *byte < 32 {
-            return false;
-        }
-    }
-    true
+    !text.is_empty()
+        && text.len() <= LONGEST
+        && has_plain_bytes(text)
+        && has_names(text)
+        && !is_own(text)
 }
 
 impl Path {
@@ -61,7 +91,7 @@ impl Path {
         }
         match Text::from_str(alloc, text) {
             Ok(text) => Ok(Path { text }),
-            Err(_) => Err(PathError::OutOfMemory),
+            Err(OutOfMemory) => Err(PathError::OutOfMemory),
         }
     }
 

@@ -11,7 +11,7 @@ use Rattle.rd_top.specs.declared.tree.Node.TheVariants as node
 use Rattle.rd_top.specs.Form.{Form, below}
 use Rattle.rd_top.specs.Reader.{Reader, hits, is_there, read_below}
 use Rattle.rd_top.specs.Terminal.{terminal, among, same, flag, is, spelled, name_of, quoted, text_of}
-use Rattle.rd_top.specs.Grammar.{operator_by, operator_of, begins_expression, lit, named_by, chained, link_of, atom, link, chain, expression}
+use Rattle.rd_top.specs.Grammar.{operator_by, operator_of, begins_expression, lit, named_by, chained, atom, link, chain, expression}
 use Rattle.rd_top.specs.Reading.{read_atom, read_link, read_chain, read_expression}
 use Rattle.rd_top.proofs.Laws.{Grows, Completes, Lawful}
 use Rattle.rd_top.proofs.Depth.{below_grows, below_zero, below_suc, Same, recast}
@@ -104,7 +104,7 @@ module _ (n : ℕ) (X : ℕ → Form Token Node) (F : ℕ → Reader Token Node)
       relabel (λ t. atom_begins (terminal t) t.text) (λ t. atom_extends (terminal t)) (choice named literal (λ t. text_name (terminal t) t.text))
 
   link_rule : Rule X n (λ m. link m (X m)) (λ m. read_link m (F m)) (hits operator_of) (among extends_atom) false
-  link_rule = maps link_of (then (token X n operator_of (sign_at (codes "+")) Add plus_there) atom_rule)
+  link_rule = then (token X n operator_of (sign_at (codes "+")) Add plus_there) atom_rule
 
   chain_rule : Rule X n (λ m. chain m (X m)) (λ m. read_chain m (F m)) (among begins_expression) (among extends_expression) false
   chain_rule =

@@ -4,10 +4,10 @@ use Rattle.rd_syntax.specs.declared.token.Token.{Token}
 use Rattle.rd_top.specs.declared.parse.terminal.Terminal.TheVariants as w
 use Rattle.rd_top.specs.declared.tree.Node.{Node}
 use Rattle.rd_top.specs.declared.tree.Node.TheVariants as node
-use Rattle.rd_top.specs.declared.tree.Link.{Link}
+use Rattle.rd_top.specs.declared.tree.Operator.{Operator}
 use Rattle.rd_top.specs.Reader.{Reader, Outcome, sees, hits, ◌>>=◌, pure, read_one, read_made, read_opt, read_many, read_below, read_listed}
 use Rattle.rd_top.specs.Terminal.{is, among, name_of, text_of}
-use Rattle.rd_top.specs.Grammar.{operator_of, begins_expression, lit, named_by, chained, link_of}
+use Rattle.rd_top.specs.Grammar.{operator_of, begins_expression, lit, named_by, chained}
 use Rattle.rd_top.specs.Reading.{read_arguments, read_atom, read_link, read_expression, more_arguments, listed_arguments, arguments_at, call_at, atom_at, link_at, links_at, chain_at}
 use Rattle.rd_top.proofs.Flat.{assoc, flat2, flat3, flat_opt, flat_listed, shut}
 use Rattle.rd_top.specs.declared.parse.halt.Halt.{Halt}
@@ -51,7 +51,7 @@ atom_is n = λ i ts. flat_atom n ts i
 
 flat_link : (n : ℕ) (ts : List Token) → link_at n ts ≡ read_link n (inner n) ts
 unfolding link_at
-flat_link n ts = rw (atom_is n) (sym (flat2 link_of (read_one operator_of) (read_atom n (inner n)) ts))
+flat_link n ts = rw (atom_is n) refl
 
 link_is : (n : ℕ) → link_at n ≡ read_link n (inner n)
 link_is n = λ i ts. flat_link n ts i
@@ -85,10 +85,10 @@ links_fail n ts rest first h e f = rw e (fails_then h _ _ f)
 pub chain_links : (n : ℕ) (ts rest : List Token) (first : Node) (h : Halt) → atom_at n ts ≡ Ok (first, rest) → Fails h (links_at n rest) → Fails h (read_expression n ts)
 chain_links n ts rest first h e f = fails_along h _ _ (flat_expression n ts) (links_fail n ts rest first h e f)
 
-pub chain_is : (n : ℕ) (ts rest end : List Token) (first : Node) (links : List Link) → atom_at n ts ≡ Ok (first, rest) → links_at n rest ≡ Ok (links, end) → read_expression n ts ≡ Ok (chained first links, end)
+pub chain_is : (n : ℕ) (ts rest end : List Token) (first : Node) (links : List (Operator × Node)) → atom_at n ts ≡ Ok (first, rest) → links_at n rest ≡ Ok (links, end) → read_expression n ts ≡ Ok (chained first links, end)
 unfolding chain_at
 chain_is n ts rest end first links e d = sym (flat_expression n ts) ∙ rw (e, d) refl
 
-pub chained_some : (first : Node) (links : List Link) → (links ≡ [] → ⊥) → chained first links ≡ node.Chain first links
+pub chained_some : (first : Node) (links : List (Operator × Node)) → (links ≡ [] → ⊥) → chained first links ≡ node.Chain first links
 chained_some first [] h = absurd (h refl)
 chained_some first (l ∷ ls) h = refl

@@ -1,14 +1,13 @@
 -- The grammar: a relation of trees to the tokens that spell them. A number says how many levels may be open.
 use Rattle.std.specs.Prelude.{ℕ, zero, suc, List, [], ◌∷◌, Option, Some, None, Bool, true, false}
 use Rattle.rd_syntax.specs.declared.token.Token.{Token}
-use Rattle.rd_value.specs.declared.value.Datum.TheVariants as value
 use Rattle.rd_top.specs.declared.parse.terminal.Terminal.{Terminal}
 use Rattle.rd_top.specs.declared.parse.terminal.Terminal.TheVariants as w
 use Rattle.rd_top.specs.declared.tree.Operator.{Operator}
 use Rattle.rd_top.specs.declared.tree.Operator.TheVariants.{Add}
+use Rattle.rd_top.specs.declared.tree.Literal.TheVariants as literal
 use Rattle.rd_top.specs.declared.tree.Node.{Node}
 use Rattle.rd_top.specs.declared.tree.Node.TheVariants as node
-use Rattle.rd_top.specs.declared.tree.Link.{Link}
 use Rattle.rd_top.specs.declared.tree.Statement.{Statement}
 use Rattle.rd_top.specs.declared.tree.Statement.TheVariants as statement
 use Rattle.rd_top.specs.declared.tree.Function.{Function}
@@ -32,7 +31,7 @@ begins_expression w.Text = true
 begins_expression _ = false
 
 abbrev pub lit : List ℕ → Node
-lit t = node.Lit (value.Text t)
+lit t = node.Lit (literal.Text t)
 
 -- a name alone, or a call
 abbrev pub named_by : List ℕ → Option (List Node) → Node
@@ -40,12 +39,9 @@ named_by name None = node.Name name
 named_by name (Some positional) = node.Call name positional
 
 -- one operand alone, or a chain
-abbrev pub chained : Node → List Link → Node
+abbrev pub chained : Node → List (Operator × Node) → Node
 chained first [] = first
 chained first (l ∷ ls) = node.Chain first (l ∷ ls)
-
-abbrev pub link_of : Operator × Node → Link
-link_of x = record { operator = x.0; operand = x.1 }
 
 -- Inner is the form of an expression one level further in.
 module _ (n : ℕ) (inner : Form Token Node) where
@@ -62,8 +58,8 @@ module _ (n : ℕ) (inner : Form Token Node) where
   atom = either named (made lit (one text_of))
 
   -- `+` atom
-  abbrev pub link : Form Token Link
-  link = made link_of (both (one operator_of) atom)
+  abbrev pub link : Form Token (Operator × Node)
+  link = both (one operator_of) atom
 
   -- atom { link }
   abbrev pub chain : Form Token Node

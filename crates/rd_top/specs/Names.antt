@@ -6,6 +6,7 @@ use Rattle.rd_value.specs.declared.class.Class.TheVariants as c
 use Rattle.rd_value.specs.Class as class
 use Rattle.rd_top.specs.declared.names.Use.{Use}
 use Rattle.rd_top.specs.declared.names.Use.TheVariants as use_
+use Rattle.rd_top.specs.declared.tree.Operator.{Operator}
 use Rattle.rd_top.specs.declared.tree.Node.{Node}
 use Rattle.rd_top.specs.declared.tree.Node.TheOpen.{Node-F}
 use Rattle.rd_top.specs.declared.tree.Node.TheFolds.{fold-Node}
@@ -31,15 +32,19 @@ abbrev pub joined : {X : Type 0} → List (List X) → List X
 joined [] = []
 joined (xs ∷ rest) = xs ++ joined rest
 
-abbrev pub uses_at : Node-F (List Use) (List Use) → List Use
+abbrev pub operand_uses : List (Operator × List Use) → List Use
+operand_uses [] = []
+operand_uses (p ∷ rest) = p.1 ++ operand_uses rest
+
+abbrev pub uses_at : Node-F (List Use) → List Use
 uses_at (Node-F.Lit v) = []
 uses_at (Node-F.Name x) = use_.Value x ∷ []
 uses_at (Node-F.Call x positional) = use_.Called x ∷ joined positional
-uses_at (Node-F.Chain first rest) = first ++ joined rest
+uses_at (Node-F.Chain first rest) = first ++ operand_uses rest
 
 -- the names of an expression, in their order
 abbrev pub uses : Node → List Use
-uses = fold-Node (List Use) (List Use) uses_at (λ l. l.operand)
+uses = fold-Node (List Use) uses_at
 
 abbrev pub statement_uses : Statement → List Use
 statement_uses (statement.Return value) = uses value

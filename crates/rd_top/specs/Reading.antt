@@ -4,14 +4,14 @@ use Rattle.rd_syntax.specs.declared.token.Token.{Token}
 use Rattle.rd_top.specs.declared.parse.terminal.Terminal.TheVariants as w
 use Rattle.rd_top.specs.declared.tree.Node.{Node}
 use Rattle.rd_top.specs.declared.tree.Node.TheVariants as node
-use Rattle.rd_top.specs.declared.tree.Link.{Link}
+use Rattle.rd_top.specs.declared.tree.Operator.{Operator}
 use Rattle.rd_top.specs.declared.tree.Statement.{Statement}
 use Rattle.rd_top.specs.declared.tree.Statement.TheVariants as statement
 use Rattle.rd_top.specs.declared.tree.Function.{Function}
 use Rattle.rd_top.specs.declared.tree.Module.{Module}
 use Rattle.rd_top.specs.Reader.{Reader, sees, hits, ◌>>=◌, pure, read_one, read_both, read_made, read_either, read_opt, read_many, read_opening, read_open, read_below, read_more, read_listed, too_deep}
 use Rattle.rd_top.specs.Terminal.{is, among, name_of, text_of, task_of}
-use Rattle.rd_top.specs.Grammar.{operator_of, begins_expression, lit, named_by, chained, link_of, Head, function_of, module_of}
+use Rattle.rd_top.specs.Grammar.{operator_of, begins_expression, lit, named_by, chained, Head, function_of, module_of}
 
 -- ---- from the combinators by which the grammar is written
 
@@ -25,8 +25,8 @@ module _ (n : ℕ) (inner : Reader Token Node) where
   abbrev pub read_atom : Reader Token Node
   read_atom = read_either (hits name_of) read_named (read_made lit (read_one text_of))
 
-  abbrev pub read_link : Reader Token Link
-  read_link = read_made link_of (read_both (read_one operator_of) read_atom)
+  abbrev pub read_link : Reader Token (Operator × Node)
+  read_link = read_both (read_one operator_of) read_atom
 
   abbrev pub read_chain : Reader Token Node
   read_chain = read_made (λ x. chained x.0 x.1) (read_both read_atom (read_many (hits operator_of) read_link))
@@ -90,13 +90,13 @@ atom_at n = λ ts. if sees (hits name_of) ts
     then (do name ← read_one name_of; call_at n name) ts
     else (do t ← read_one text_of; pure (lit t)) ts
 
-unfoldable pub link_at : ℕ → Reader Token Link
+unfoldable pub link_at : ℕ → Reader Token (Operator × Node)
 link_at n = do
   operator ← read_one operator_of
   operand ← atom_at n
-  pure (record { operator = operator; operand = operand })
+  pure (operator, operand)
 
-unfoldable pub links_at : ℕ → Reader Token (List Link)
+unfoldable pub links_at : ℕ → Reader Token (List (Operator × Node))
 links_at n = read_many (hits operator_of) (link_at n)
 
 unfoldable pub chain_at : ℕ → Reader Token Node

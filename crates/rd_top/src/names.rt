@@ -6,7 +6,7 @@ ghost use Rattle.std.specs.Str.{bytes_eq};
 ghost use Rattle.rd_top.specs.Names as spec;
 ghost use Rattle.rd_top.specs.Names.{KeepsOwn, KeepsNames};
 
-use crate::tree::{Function, Link, Module, Node, Statement};
+use crate::tree::{Function, Module, Node, Operator, Statement};
 use indexmap::IndexSet;
 use rd_base::{Copies, OutOfMemory, Text};
 use std::alloc::Global;
@@ -108,11 +108,16 @@ fn add_each(alloc: Global, nodes: &[Node], all: &mut Vec<Use>) -> Result<(), Out
 }
 
 #[cycle(uses)]
-fn add_operands(alloc: Global, links: &[Link], all: &mut Vec<Use>) -> Result<(), OutOfMemory>
-    ensures { OnOk result (all.new.items ≡ all.old.items ++ spec.joined (map (λ l. spec.uses l.operand) links.now)) }
+fn add_operands(
+    alloc: Global,
+    rest: &[(Operator, Node)],
+    all: &mut Vec<Use>,
+) -> Result<(), OutOfMemory>
+    ensures { let operands = map (λ p. (p.0, spec.uses p.1)) rest.now in
+        OnOk result (all.new.items ≡ all.old.items ++ spec.operand_uses operands) }
 {
-    for link in links {
-        add_uses(alloc, &link.operand, all)?;
+    for link in rest {
+        add_uses(alloc, &link.1, all)?;
     }
     Ok(())
 }

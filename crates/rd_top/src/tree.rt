@@ -1,7 +1,6 @@
 //! Syntax trees.
 
 use rd_base::{Boxed, Items, Text};
-use rd_value::value::Value;
 
 /// An operator between two operands.
 #[derive(Clone, Copy, Debug, PartialEq, Eq)]
@@ -9,29 +8,29 @@ pub enum Operator {
     Add,
 }
 
+/// A literal of a source, which is no list, dict, file or error.
+#[derive(PartialEq, Eq, Drop)]
+pub enum Literal {
+    Nothing,
+    Bool(bool),
+    Int(i64),
+    Text(Text),
+}
+
 /// An expression of a source.
-#[cycle(node)]
 #[derive(PartialEq, Eq, Drop)]
 pub enum Node {
-    Lit(Value),
+    Lit(Literal),
     Name(Text),
     Call {
         name: Text,
         positional: Items<Node>,
     },
-    /// Operands of one level, and the operators between them, from the left. `rest` isn't empty.
+    /// Operands of one level, and the operators before each but the first. `rest` isn't empty.
     Chain {
         first: Boxed<Node>,
-        rest: Items<Link>,
+        rest: Items<(Operator, Node)>,
     },
-}
-
-/// An operator of a chain with the operand behind it.
-#[cycle(node)]
-#[derive(PartialEq, Eq, Drop)]
-pub struct Link {
-    pub operator: Operator,
-    pub operand: Node,
 }
 
 #[derive(PartialEq, Eq, Drop)]
@@ -41,6 +40,7 @@ pub enum Statement {
 
 pub type Block = Items<Statement>;
 
+/// A task.
 #[derive(PartialEq, Eq, Drop)]
 pub struct Function {
     pub name: Text,

@@ -2,7 +2,17 @@
 #![tactic(auto)]
 
 pub mod class;
+mod depth;
+pub mod erasure;
 pub mod expr;
+mod expr_depth;
+mod expr_size;
 pub mod failure;
+pub mod limits;
+pub mod operators;
+mod repr;
 pub mod signature;
+mod size;
+#[cfg(test)]
+mod tests;
 pub mod value;

@@ -10,10 +10,9 @@ ghost use Rattle.rd_top.specs.Reading.{read_expression, more_arguments, listed_a
 use crate::parse::halt::Halt;
 use crate::parse::take::{after, begins_name, begins_with, expect, name, open, text};
 use crate::parse::terminal::{Terminal, terminal_of};
-use crate::tree::{Link, Node, Operator};
+use crate::tree::{Literal, Node, Operator};
 use rd_base::{Boxed, Items, Text};
 use rd_syntax::Token;
-use rd_value::value::Value;
 use std::alloc::Global;
 
 fn begins_expression(tokens: &[Token]) -> bool
@@ -70,7 +69,7 @@ fn links<'a>(
     alloc: Global,
     depth: usize,
     tokens: &'a [Token],
-) -> Result<(Vec<Link>, &'a [Token]), Halt<'a>>
+) -> Result<(Vec<(Operator, Node)>, &'a [Token]), Halt<'a>>
     ensures { Gives (λ x. (x.0.items, x.1.now)) result (links_at depth tokens.now) }
 {
     let mut all = Vec::new(alloc);
@@ -89,12 +88,12 @@ fn link<'a>(
     alloc: Global,
     depth: usize,
     tokens: &'a [Token],
-) -> Result<(Link, &'a [Token]), Halt<'a>>
+) -> Result<((Operator, Node), &'a [Token]), Halt<'a>>
     ensures { Gives (λ x. (x.0, x.1.now)) result (link_at depth tokens.now) }
 {
     let (operator, rest) = operator(tokens)?;
     let (operand, rest) = atom(alloc, depth, rest)?;
-    Ok((Link { operator, operand }, rest))
+    Ok(((operator, operand), rest))
 }
 
 #[cycle(expression)]
@@ -111,7 +110,7 @@ fn atom<'a>(
         call(alloc, depth, name, rest)
     } else {
         let (text, rest) = text(alloc, tokens)?;
-        Ok((Node::Lit(Value::Text(text)), rest))
+        Ok((Node::Lit(Literal::Text(text)), rest))
     }
 }
 
