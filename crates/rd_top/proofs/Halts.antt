@@ -3,9 +3,9 @@ use Rattle.std.proofs.Common.{◌≡◌, Bool, true, List, sym, ap, subst, ◌�
 use Rattle.rd_syntax.specs.declared.token.Token.{Token}
 use Rattle.rd_top.specs.declared.parse.halt.Halt.{Halt}
 use Rattle.rd_top.specs.declared.parse.halt.Halt.TheVariants as halt
-use Rattle.rd_top.specs.Reader.{Refused, Deep, Outcome, Reader, sees, and_then, read_many}
+use Rattle.rd_top.specs.Reader.{Refused, Deep, Outcome, Reader, sees, and_then, read_many, onto}
 use Rattle.rd_top.specs.Gives.{Fails}
-use Rattle.rd_top.proofs.Loops.{Shrinks, behind, plain_stops}
+use Rattle.rd_top.proofs.Loops.{Shrinks, plain_stops}
 
 pub fails_then : {A B : Type 0} (h : Halt) (r : Outcome Token A) (f : A → Reader Token B) → Fails h r → Fails h (and_then r f)
 fails_then halt.Memory r f e = tt
@@ -16,7 +16,7 @@ pub fails_along : {A : Type 0} (h : Halt) (r s : Outcome Token A) → r ≡ s �
 fails_along h r s e f = subst (λ r. Fails h r) e f
 
 module _ {A : Type 0} (s : Token → Bool) (g : Reader Token A) (short : Shrinks g) where
-  pub plain_fails : (all : List A) (ts : List Token) (h : Halt) (total : Outcome Token (List A)) → sees s ts ≡ true → Fails h (g ts) → behind all (read_many s g) ts ≡ total → Fails h total
+  pub plain_fails : (all : List A) (ts : List Token) (h : Halt) (total : Outcome Token (List A)) → sees s ts ≡ true → Fails h (g ts) → onto all (read_many s g) ts ≡ total → Fails h total
   plain_fails all ts halt.Memory total y e w = tt
   plain_fails all ts (halt.Refused r) total y e w = sym w ∙ plain_stops s g short all ts (Refused r.now) y e
   plain_fails all ts (halt.Deep r) total y e w = sym w ∙ plain_stops s g short all ts (Deep r.now) y e

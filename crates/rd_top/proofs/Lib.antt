@@ -1,3 +1,4 @@
+pub mod Asked
 pub mod Binding
 pub mod BodyErased
 pub mod Chain
@@ -18,11 +19,12 @@ pub mod Loops
 pub mod Many
 pub mod Modules
 pub mod More
-pub mod Names
+pub mod NameTests
 pub mod NodeInd
 pub mod NodeSteps
 pub mod Parts
 pub mod Paths
+pub mod Places
 pub mod Rules
 pub mod Sources
 pub mod Tail

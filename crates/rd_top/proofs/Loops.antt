@@ -2,7 +2,7 @@
 use Rattle.std.proofs.Common.{◌≡◌, ℕ, zero, suc, ◌<◌, Bool, true, false, cond, List, [], ◌∷◌, ◌++◌, length, Ok, Err, refl, sym, ap, ◌∙◌, append_assoc, length-append, arith, inl, inr, Option, Some, None}
 use Rattle.std.proofs.lemmas.List.{append-nil}
 use Rattle.rd_top.specs.Form.{Form}
-use Rattle.rd_top.specs.Reader.{Stop, Outcome, Reader, sees, hits, and_then, ◌>>=◌, pure, took, read_one, read_made, read_many, read_many_by, read_tail, read_tail_by}
+use Rattle.rd_top.specs.Reader.{Stop, Outcome, Reader, sees, hits, and_then, ◌>>=◌, pure, took, read_one, read_many, onto, read_many_by, read_tail, read_tail_by}
 use Rattle.rd_top.proofs.Laws.{Lawful, one_none, got, got_rest}
 use Rattle.rd_top.proofs.More.{by_true, by_false, way}
 
@@ -46,32 +46,21 @@ pub taken_short : {T A : Type 0} (o : T → Option A) → Shrinks (read_one o)
 taken_short o a [] rest h = absurd cc
 taken_short o a (t ∷ ts) rest h = let same : ts ≡ rest = took_rest (t ∷ ts) ts rest (o t) a h in rw (← same) (omega arith)
 
--- what was read before, with what is still read
-abbrev pub behind : {T A : Type 0} → List A → Reader T (List A) → Reader T (List A)
-behind all f = read_made (λ more. all ++ more) f
-
-behind_one : {T A : Type 0} (all : List A) (a : A) (r : Outcome T (List A)) → and_then (and_then r (λ more. pure (a ∷ more))) (λ more. pure (all ++ more)) ≡ and_then r (λ more. pure ((all ++ a ∷ []) ++ more))
-behind_one all a (Ok x) = ap (λ xs. Ok (xs, x.1)) (simp append_assoc)
-behind_one all a (Err e) = refl
+onto_one : {T A : Type 0} (all : List A) (a : A) (r : Outcome T (List A)) → and_then (and_then r (λ more. pure (a ∷ more))) (λ more. pure (all ++ more)) ≡ and_then r (λ more. pure ((all ++ a ∷ []) ++ more))
+onto_one all a (Ok x) = ap (λ xs. Ok (xs, x.1)) (simp append_assoc)
+onto_one all a (Err e) = refl
 
 module _ {T A : Type 0} (s : T → Bool) (g : Reader T A) (short : Shrinks g) where
-  pub plain_goes_on : (all : List A) (ts mid : List T) (a : A) → sees s ts ≡ true → g ts ≡ Ok (a, mid) → behind all (read_many s g) ts ≡ behind (all ++ a ∷ []) (read_many s g) mid
-  plain_goes_on all ts mid a y e = ap (λ r. and_then r (λ more. pure (all ++ more))) (many_step s g short ts mid a y e) ∙ behind_one all a (read_many s g mid)
+  pub plain_goes_on : (all : List A) (ts mid : List T) (a : A) → sees s ts ≡ true → g ts ≡ Ok (a, mid) → onto all (read_many s g) ts ≡ onto (all ++ a ∷ []) (read_many s g) mid
+  plain_goes_on all ts mid a y e = ap (λ r. and_then r (λ more. pure (all ++ more))) (many_step s g short ts mid a y e) ∙ onto_one all a (read_many s g mid)
 
-  pub plain_stops : (all : List A) (ts : List T) (h : Stop T) → sees s ts ≡ true → g ts ≡ Err h → behind all (read_many s g) ts ≡ Err h
+  pub plain_stops : (all : List A) (ts : List T) (h : Stop T) → sees s ts ≡ true → g ts ≡ Err h → onto all (read_many s g) ts ≡ Err h
   plain_stops all ts h y e =
       let none : read_many s g ts ≡ Err h = by_true (sees s ts) _ _ y ∙ ap (λ r. and_then r (λ a. read_many_by s g (length ts) >>= λ more. pure (a ∷ more))) e in
       ap (λ r. and_then r (λ more. pure (all ++ more))) none
 
-  pub plain_done : (all : List A) (ts : List T) → sees s ts ≡ false → behind all (read_many s g) ts ≡ Ok (all, ts)
+  pub plain_done : (all : List A) (ts : List T) → sees s ts ≡ false → onto all (read_many s g) ts ≡ Ok (all, ts)
   plain_done all ts n = ap (λ r. and_then r (λ more. pure (all ++ more))) (by_false (sees s ts) _ _ n) ∙ ap (λ xs. Ok (xs, ts)) (append-nil all)
-
-behind_nil : {T A : Type 0} (r : Outcome T (List A)) → and_then r (λ more. pure ([] ++ more)) ≡ r
-behind_nil (Ok x) = refl
-behind_nil (Err e) = refl
-
-pub behind_none : {T A : Type 0} (f : Reader T (List A)) (ts : List T) → behind [] f ts ≡ f ts
-behind_none f ts = behind_nil (f ts)
 
 -- ---- each behind a sign
 
@@ -106,24 +95,12 @@ module _ {T S C A : Type 0} (c : T → Option C) (first : S → T → Bool) (f :
     sign_there : (r : Outcome T (List A)) → behind_sign (length ts) s u after ≡ r → reads s ts ≡ r
     sign_there r d = by_true (sees (hits c) ts) _ _ (taken_sees c ts after u e) ∙ rw e d
 
-    pub signed_goes_on : (mid : List T) (a : A) → sees (first s) after ≡ true → f s after ≡ Ok (a, mid) → behind all (reads s) ts ≡ behind (all ++ a ∷ []) (reads (step s a)) mid
+    pub signed_goes_on : (mid : List T) (a : A) → sees (first s) after ≡ true → f s after ≡ Ok (a, mid) → onto all (reads s) ts ≡ onto (all ++ a ∷ []) (reads (step s a)) mid
     signed_goes_on mid a z d =
         let shorter : length mid < length ts = omega (arith, taken_short c u ts after e, short s a after mid d) in
         let last : behind_sign (length ts) s u after ≡ and_then (reads (step s a) mid) (λ more. pure (a ∷ more)) =
         by_true (sees (first s) after) _ _ z ∙ rw d (ap (λ r. and_then r (λ more. pure (a ∷ more))) (enough_turns (length ts) (suc (length mid)) (step s a) mid (omega arith) (omega arith))) in
-        ap (λ r. and_then r (λ more. pure (all ++ more))) (sign_there _ last) ∙ behind_one all a (reads (step s a) mid)
+        ap (λ r. and_then r (λ more. pure (all ++ more))) (sign_there _ last) ∙ onto_one all a (reads (step s a) mid)
 
     pub signed_shorter : (mid : List T) (a : A) → f s after ≡ Ok (a, mid) → length mid < length ts
     signed_shorter mid a d = omega (arith, taken_short c u ts after e, short s a after mid d)
-
-    pub signed_stops : (h : Stop T) → sees (first s) after ≡ true → f s after ≡ Err h → behind all (reads s) ts ≡ Err h
-    signed_stops h z d =
-        let last : behind_sign (length ts) s u after ≡ Err h = by_true (sees (first s) after) _ _ z ∙ rw d refl in
-        ap (λ r. and_then r (λ more. pure (all ++ more))) (sign_there _ last)
-
-    -- the sign once more
-    pub signed_ends : sees (first s) after ≡ false → behind all (reads s) ts ≡ Ok (all, after)
-    signed_ends z = ap (λ r. and_then r (λ more. pure (all ++ more))) (sign_there _ (by_false (sees (first s) after) _ _ z)) ∙ ap (λ xs. Ok (xs, after)) (append-nil all)
-
-  pub signed_done : (all : List A) (s : S) (ts : List T) → sees (hits c) ts ≡ false → behind all (reads s) ts ≡ Ok (all, ts)
-  signed_done all s ts n = ap (λ r. and_then r (λ more. pure (all ++ more))) (by_false (sees (hits c) ts) _ _ n) ∙ ap (λ xs. Ok (xs, ts)) (append-nil all)

@@ -83,6 +83,8 @@ line n = made (λ x. x.0) (both (simple n) (one (is w.Newline)))
 abbrev pub block : ℕ → Form Token (List Statement)
 block n = made (λ x. x.1 ∷ []) (both (opening (is w.Colon) n) (below line n))
 
+-- The parentheses of a decorator and of parameters stand where no other level is open, so they are never one too many and go uncounted.
+
 -- [ `(` `)` ]
 abbrev pub no_options : Form Token (Unit {0})
 no_options = made (λ x. tt) (opt (both (one (is w.LeftParen)) (one (is w.RightParen))))

@@ -10,6 +10,8 @@ pub mod Form
 pub mod Fresh
 pub mod Gives
 pub mod Grammar
+pub mod Names
+pub mod Printed
 pub mod Reader
 pub mod Reading
 pub mod Running

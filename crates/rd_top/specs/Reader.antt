@@ -1,5 +1,5 @@
 -- Readers: from the left, with the tokens at which reading stops.
-use Rattle.std.specs.Prelude.{ℕ, zero, suc, Bool, true, false, if◌then◌else◌, List, [], ◌∷◌, length, Option, Some, None, Result, Ok, Err}
+use Rattle.std.specs.Prelude.{ℕ, zero, suc, Bool, true, false, if◌then◌else◌, List, [], ◌∷◌, ◌++◌, length, Option, Some, None, Result, Ok, Err}
 use Rattle.rd_top.specs.Form.{all_of}
 
 pub data Stop (T : Type 0) : Type 0 where
@@ -105,3 +105,7 @@ read_listed c first f = read_made all_of (read_opt first (read_both f (read_more
 abbrev pub read_open : {T A : Type 0} → (T → Option A) → ℕ → Reader T ℕ
 read_open o zero = λ ts. if sees (hits o) ts then Err (Deep ts) else Err (Refused ts)
 read_open o (suc n) = read_made (λ u. n) (read_one o)
+
+-- what was read before, with what is still read
+abbrev pub onto : {T A : Type 0} → List A → Reader T (List A) → Reader T (List A)
+onto all f = read_made (λ more. all ++ more) f

@@ -1,5 +1,5 @@
 -- Whole sources.
-use Rattle.std.specs.Prelude.{◌≡◌, ℕ, List}
+use Rattle.std.specs.Prelude.{ℕ, List}
 use Rattle.rd_syntax.specs.declared.token.Token.{Token}
 use Rattle.rd_syntax.specs.Sources.{Lexes}
 use Rattle.rd_top.specs.declared.tree.Module.{Module}
@@ -10,7 +10,3 @@ pub record IsSource (source : List ℕ) (m : Module) : Type 0 where
   pub tokens : List Token
   pub has_tokens : Lexes source tokens
   pub spells : IsModule tokens m
-
--- A source has at most one module.
-abbrev pub HasOneModule : List ℕ → Type 0
-HasOneModule source = (m n : Module) → IsSource source m → IsSource source n → m ≡ n

@@ -77,7 +77,7 @@ fn no_task(alloc: Global, task: &Text) -> Result<Failure, OutOfMemory>
 }
 
 /// The task of a name.
-fn find<'m>(functions: &'m [Function], name: &Text) -> Option<&'m Function>
+pub fn find<'m>(functions: &'m [Function], name: &Text) -> Option<&'m Function>
     ensures { option_copied result ≡ fresh.find name.now functions.now }
 {
     for function in functions {

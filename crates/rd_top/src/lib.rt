@@ -1,4 +1,4 @@
-//! The language: sources, their trees and what they mean.
+//! The language: sources, their trees and what they mean, and the run of a workflow.
 #![tactic(auto)]
 
 mod bind;
@@ -8,14 +8,15 @@ mod disk;
 mod evaluate;
 mod lazies;
 mod lists;
+mod names;
 mod parse;
 mod print;
 mod raise;
+mod serial;
 mod shown;
 mod source;
 mod tree;
 
-pub use body::run_body;
-pub use parse::MAX_NESTING;
-pub use source::read_source;
-pub use tree::{Block, Function, Literal, Module, Node, Operator, Statement};
+pub use disk::{Disk, DiskError, Found, MemoryDisk};
+pub use serial::redun_serial;
+pub use source::one_module;

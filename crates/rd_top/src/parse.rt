@@ -19,7 +19,7 @@ use std::alloc::Global;
 /// How many levels may be open at once.
 pub const MAX_NESTING: usize = 64;
 
-/// The module that the tokens spell.
+/// The module that the tokens spell. A refusal always names line 1.
 pub fn parse(alloc: Global, tokens: &Tokens) -> Result<Module, SourceError>
     // What is read is in the grammar.
     ensures found { IfOk result (λ m. IsModule tokens.now m) }

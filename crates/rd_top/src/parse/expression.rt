@@ -1,7 +1,7 @@
 //! Expressions.
 
-ghost use Rattle.std.specs.Prelude.{◌≡◌, ◌++◌};
-ghost use Rattle.rd_top.specs.Reader.{read_one, read_made, hits, sees};
+ghost use Rattle.std.specs.Prelude.{◌≡◌};
+ghost use Rattle.rd_top.specs.Reader.{read_one, hits, sees, onto};
 ghost use Rattle.rd_top.specs.Terminal.{among};
 ghost use Rattle.rd_top.specs.Grammar.{operator_of, begins_expression};
 ghost use Rattle.rd_top.specs.Gives.{Gives};
@@ -173,7 +173,7 @@ fn more<'a>(
     mut all: Vec<Node>,
     tokens: &'a [Token],
 ) -> Result<(Vec<Node>, &'a [Token]), Halt<'a>>
-    ensures { Gives (λ x. (x.0.items, x.1.now)) result (read_made (λ more. all.items ++ more) (more_arguments depth) tokens.now) }
+    ensures { Gives (λ x. (x.0.items, x.1.now)) result (onto all.items (more_arguments depth) tokens.now) }
 {
     let mut rest = tokens;
     while let Some(behind) = after(rest, Terminal::Comma) {

@@ -1,7 +1,7 @@
 //! Tasks and modules.
 
-ghost use Rattle.std.specs.Prelude.{◌≡◌, ◌++◌};
-ghost use Rattle.rd_top.specs.Reader.{read_made};
+ghost use Rattle.std.specs.Prelude.{◌≡◌};
+ghost use Rattle.rd_top.specs.Reader.{onto};
 ghost use Rattle.rd_top.specs.Gives.{Gives};
 ghost use Rattle.rd_top.specs.Reading.{simple_at, line_at, block_at, no_options_at, decorator_at, more_parameters, parameters_at, head_at, function_at, functions_at, module_at};
 
@@ -81,7 +81,7 @@ fn more<'a>(
     mut all: Vec<Text>,
     tokens: &'a [Token],
 ) -> Result<(Vec<Text>, &'a [Token]), Halt<'a>>
-    ensures { Gives (λ x. (x.0.items, x.1.now)) result (read_made (λ more. all.items ++ more) more_parameters tokens.now) }
+    ensures { Gives (λ x. (x.0.items, x.1.now)) result (onto all.items more_parameters tokens.now) }
 {
     let mut rest = tokens;
     while let Some(behind) = after(rest, Terminal::Comma) {

@@ -3,7 +3,7 @@ use Rattle.std.specs.Prelude.{position}
 use Rattle.std.specs.Option.{option_map}
 use Rattle.std.specs.Str.{bytes_eq}
 use Rattle.rd_value.specs.declared.expr.Lazy.TheVariants as lazy
-use Rattle.rd_top.proofs.Names.{at_place, bound_at}
+use Rattle.rd_top.proofs.Places.{at_place, bound_at}
 use Rattle.rd_top.proofs.body.Scope.argument.Goals as goal
 
 pub returns-in-Some : goal.returns-in-Some

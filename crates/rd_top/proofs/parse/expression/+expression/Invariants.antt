@@ -1,5 +1,5 @@
-use Rattle.std.proofs.Common.{◌≡◌, ◌++◌, ◌+◌, ◌*◌, length}
-use Rattle.rd_top.specs.Reader.{read_made}
+use Rattle.std.proofs.Common.{◌≡◌, ◌+◌, ◌*◌, length}
+use Rattle.rd_top.specs.Reader.{onto}
 use Rattle.rd_top.specs.Reading.{more_arguments, links_at}
 use Rattle.rd_top.proofs.parse.expression.+expression.Given as goal
 
@@ -28,13 +28,13 @@ abbrev pub decreases-arguments : goal.decreases-arguments
 decreases-arguments l = 8 * l.depth
 
 abbrev pub invariant-links-loop-alloc : goal.invariant-links-loop-alloc
-invariant-links-loop-alloc l = read_made (λ more. l.all.items ++ more) (links_at l.depth) l.rest ≡ links_at l.depth l.fn.tokens
+invariant-links-loop-alloc l = onto l.all.items (links_at l.depth) l.rest ≡ links_at l.depth l.fn.tokens
 
 abbrev pub decreases-links-loop-alloc : goal.decreases-links-loop-alloc
 decreases-links-loop-alloc l = length l.rest
 
 abbrev pub invariant-more-loop-behind : goal.invariant-more-loop-behind
-invariant-more-loop-behind l = read_made (λ more. l.all.items ++ more) (more_arguments l.depth) l.rest ≡ read_made (λ more. l.fn.all.items ++ more) (more_arguments l.depth) l.fn.tokens
+invariant-more-loop-behind l = onto l.all.items (more_arguments l.depth) l.rest ≡ onto l.fn.all.items (more_arguments l.depth) l.fn.tokens
 
 abbrev pub decreases-more-loop-behind : goal.decreases-more-loop-behind
 decreases-more-loop-behind l = length l.rest

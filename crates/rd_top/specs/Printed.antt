@@ -1,0 +1,122 @@
+-- What a command prints, and the status that it ends with.
+use Rattle.std.specs.Prelude.{◌≡◌, ◌≤◌, ℕ, List, [], ◌++◌, codes, Some, IfSome}
+use Rattle.std.specs.declared.option.Option.{Option}
+use Rattle.std.specs.FinMap.{get}
+use Rattle.rd_base.specs.declared.status.Status.{Status}
+use Rattle.rd_base.specs.declared.status.Status.TheVariants.{Done, WorkflowError, WordsRefused, SourceRefused, DiskUnavailable, TooLarge, NotFound}
+use Rattle.rd_base.specs.Status.{number_of}
+use Rattle.rd_base.specs.Sink.{added}
+use Rattle.rd_value.specs.Model.{ModelFile, ModelValue, file_of}
+use Rattle.rd_value.specs.declared.expr.Lazy.{Lazy}
+use Rattle.rd_value.specs.declared.expr.Lazy.TheVariants as lazy
+use Rattle.rd_value.specs.declared.value.FileValue.{FileValue}
+use Rattle.rd_value.specs.declared.failure.Outcome.{Outcome}
+use Rattle.rd_value.specs.declared.failure.Outcome.TheVariants.{Value, Failed}
+use Rattle.rd_top.specs.declared.tree.Module.{Module}
+use Rattle.rd_top.specs.declared.serial.Ending.{Ending}
+use Rattle.rd_top.specs.declared.serial.Ending.TheVariants as ending
+use Rattle.rd_top.specs.Command.{IsRun}
+use Rattle.rd_top.specs.Files.{Files}
+use Rattle.rd_top.specs.Source.{IsSource}
+use Rattle.rd_top.specs.Names.{KeepsNames}
+use Rattle.rd_top.specs.Fresh as fresh
+use Rattle.rd_top.specs.Fresh.{Answer}
+use Rattle.rd_top.specs.Fits.{FreshGives}
+use Rattle.rd_top.specs.Shown.{line, value_line, failure_line}
+use Rattle.rd_top.specs.Running.{own}
+use Rattle.rd_top.specs.Evaluating.{answer_of}
+
+-- the call of a task without arguments
+abbrev pub root : {F : Type 0} → List ℕ → Lazy F
+root task = lazy.Call task [] []
+
+-- an answer is shown as this status with this text
+abbrev pub IsShown : Answer ModelValue → Status → List ℕ → Type 0
+IsShown (fresh.Gives v) status text = (status ≡ Done) × (text ≡ value_line file_of v)
+IsShown (fresh.Failed f) status text = (status ≡ WorkflowError) × (text ≡ failure_line f)
+IsShown fresh.Deep status text = ⊥
+
+-- The words ask for a run over these files, and the status and the text show what fresh evaluation gives.
+pub record ShowsFresh (words : List (List ℕ)) (files : Files) (status : Status) (text : List ℕ) : Type 0 where
+  pub file : List ℕ
+  pub task : List ℕ
+  pub source : List ℕ
+  pub m : Module
+  pub answer : Answer ModelValue
+  pub asks : IsRun words file task
+  pub stands : get files file ≡ Some source
+  pub reads : IsSource source m
+  pub names : KeepsNames m
+  pub gives : FreshGives file_of m (root task) answer
+  pub shows : IsShown answer status text
+
+-- A status of 0 or 1 shows fresh evaluation over the files that the disk tells, and its text was added to what the sink tells.
+abbrev pub PrintedIsFresh : List (List ℕ) → Option Files → Status → Option (List ℕ) → Option (List ℕ) → Type 0
+PrintedIsFresh words told status before behind =
+    number_of status ≤ 1 → IfSome told (λ files. (text : List ℕ) × ShowsFresh words files status text × (behind ≡ added before text))
+
+-- ---- a run, before anything is printed
+
+-- what was evaluated is fresh evaluation's outcome in the source's module
+pub record IsOutcome (source task : List ℕ) (outcome : Outcome) : Type 0 where
+  pub m : Module
+  pub reads : IsSource source m
+  pub names : KeepsNames m
+  pub gives : FreshGives own m (root task) (answer_of outcome)
+
+-- an outcome of a call of a module's task is fresh evaluation's
+abbrev pub OfModule : Module → List ℕ → Ending → Type 0
+OfModule m task (ending.Outcome outcome) = FreshGives own m (root task) (answer_of outcome)
+OfModule m task _ = ⊤
+
+-- an outcome of a source is fresh evaluation's
+abbrev pub OfSource : List ℕ → List ℕ → Ending → Type 0
+OfSource source task (ending.Outcome outcome) = IsOutcome source task outcome
+OfSource source task _ = ⊤
+
+-- an outcome of a run over these files
+pub record OfFile (words : List (List ℕ)) (files : Files) (outcome : Outcome) : Type 0 where
+  pub file : List ℕ
+  pub task : List ℕ
+  pub source : List ℕ
+  pub asks : IsRun words file task
+  pub stands : get files file ≡ Some source
+  pub is_outcome : IsOutcome source task outcome
+
+-- an outcome of a run over the files that are told
+abbrev pub OfRun : List (List ℕ) → Option Files → Ending → Type 0
+OfRun words told (ending.Outcome outcome) = IfSome told (λ files. OfFile words files outcome)
+OfRun words told _ = ⊤
+
+abbrev pub outcome_line : Outcome → List ℕ
+outcome_line (Value v) = value_line own v
+outcome_line (Failed f) = failure_line f
+
+-- the line that is printed
+abbrev pub line_of : Ending → List ℕ
+line_of (ending.Outcome outcome) = outcome_line outcome
+line_of ending.WordsRefused = line (codes "words refused")
+line_of ending.SourceRefused = line (codes "source refused at line 1")
+line_of ending.DiskUnavailable = line (codes "disk unavailable")
+line_of ending.TooLarge = line (codes "too large")
+line_of (ending.NotFound word) = line (codes "not found: " ++ word)
+
+abbrev pub outcome_status : Outcome → Status
+outcome_status (Value v) = Done
+outcome_status (Failed f) = WorkflowError
+
+-- the status that it ends with
+abbrev pub status_of : Ending → Status
+status_of (ending.Outcome outcome) = outcome_status outcome
+status_of ending.WordsRefused = WordsRefused
+status_of ending.SourceRefused = SourceRefused 1
+status_of ending.DiskUnavailable = DiskUnavailable
+status_of ending.TooLarge = TooLarge
+status_of (ending.NotFound word) = NotFound
+
+-- a status and a text that show what a run came to
+pub record IsAnswer (words : List (List ℕ)) (told : Option Files) (status : Status) (text : List ℕ) : Type 0 where
+  pub ending : Ending
+  pub of_run : OfRun words told ending
+  pub status_is : status ≡ status_of ending
+  pub text_is : text ≡ line_of ending

@@ -1,0 +1,171 @@
+//! The call that the program makes.
+
+ghost use Rattle.std.specs.Prelude.{◌≡◌, ◌⊎◌, ◌++◌, Ok, IfOk, OnOk, map, string_bytes};
+ghost use Rattle.rd_base.specs.Causes.{Rose};
+ghost use Rattle.rd_base.specs.Sink.{added};
+ghost use Rattle.rd_top.specs.Printed.{OfModule, OfSource, OfRun, PrintedIsFresh, IsAnswer, line_of, status_of, outcome_status};
+ghost use Rattle.rd_top.specs.Shown as shown;
+
+use crate::command::read_command;
+use crate::disk::{Disk, DiskError, Found};
+use crate::evaluate::{Stop, evaluate, find};
+use crate::names::names_are_kept;
+use crate::print::print;
+use crate::shown::{push_failure, push_value};
+use crate::source::read_source;
+use crate::tree::Module;
+use rd_base::{Copies, Items, OutOfMemory, Sink, SinkFailed, Status, Text};
+use rd_syntax::SourceError;
+use rd_value::expr::Expr;
+use rd_value::failure::Outcome;
+use std::alloc::Global;
+
+/// What a command came to, before anything is printed.
+#[derive(Drop)]
+pub enum Ending {
+    Outcome(Outcome),
+    WordsRefused,
+    SourceRefused,
+    DiskUnavailable,
+    TooLarge,
+    NotFound(Text),
+}
+
+/// Evaluates the task of a module that is called without arguments.
+fn run_task(alloc: Global, module: &Module, task: &Text) -> Result<Ending, OutOfMemory>
+    ensures { IfOk result (OfModule «module».now task.now) }
+{
+    if find(module.functions.as_slice(), task).is_none() {
+        return Ok(Ending::NotFound(task.copy(alloc)?));
+    }
+    let root = Expr::Call {
+        task: task.copy(alloc)?,
+        positional: Items::new(alloc),
+        keywords: Items::new(alloc),
+    };
+    if !root.within() {
+        return Ok(Ending::WordsRefused);
+    }
+    match evaluate(alloc, module, &root) {
+        Ok(outcome) => Ok(Ending::Outcome(outcome)),
+        Err(Stop::TooLarge) => Ok(Ending::TooLarge),
+        Err(Stop::OutOfMemory) => Err(OutOfMemory),
+    }
+}
+
+fn run_source(alloc: Global, source: &[u8], task: &Text) -> Result<Ending, OutOfMemory>
+    ensures { IfOk result (OfSource source.now task.now) }
+{
+    let module = match read_source(alloc, source) {
+        Ok(module) => module,
+        Err(SourceError::Refused { .. }) => return Ok(Ending::SourceRefused),
+        Err(SourceError::OutOfMemory) => return Err(OutOfMemory),
+    };
+    if !names_are_kept(alloc, &module)? {
+        return Ok(Ending::SourceRefused);
+    }
+    run_task(alloc, &module, task)
+}
+
+fn run<D: Disk>(alloc: Global, words: &[String], disk: &mut D) -> Result<Ending, OutOfMemory>
+    ensures fresh { IfOk result (OfRun (map string_bytes words.now) (D.files disk.old)) }
+    ensures files { D.files disk.new ≡ D.files disk.old }
+    ensures cause { result ≡ Ok Ending.DiskUnavailable → Rose (D.faults disk.old) (D.faults disk.new) }
+{
+    let command = match read_command(alloc, words)? {
+        Some(command) => command,
+        None => return Ok(Ending::WordsRefused),
+    };
+    match disk.read(alloc, &command.file) {
+        Ok(Found::Bytes(source)) => run_source(alloc, source.as_slice(), &command.task),
+        Ok(Found::Long) => Ok(Ending::SourceRefused),
+        Ok(Found::Absent) => Ok(Ending::NotFound(Text::from_str(alloc, command.file.as_str())?)),
+        Err(DiskError::Failed) => Ok(Ending::DiskUnavailable),
+        Err(DiskError::OutOfMemory) => Err(OutOfMemory),
+    }
+}
+
+fn push_words(line: &mut String, text: &str, word: &str) -> Result<(), OutOfMemory>
+    ensures { OnOk result (string_bytes line.new ≡ string_bytes line.old ++ shown.line (text.now ++ word.now)) }
+{
+    line.push_str(text)?;
+    line.push_str(word)?;
+    line.push_str("\n")?;
+    Ok(())
+}
+
+fn push_line(line: &mut String, ending: &Ending) -> Result<(), OutOfMemory>
+    ensures { OnOk result (string_bytes line.new ≡ string_bytes line.old ++ line_of ending.now) }
+{
+    match ending {
+        Ending::Outcome(Outcome::Value(value)) => push_value(line, value),
+        Ending::Outcome(Outcome::Failed(failure)) => push_failure(line, failure),
+        Ending::WordsRefused => push_words(line, "words refused", ""),
+        Ending::SourceRefused => push_words(line, "source refused at line 1", ""),
+        Ending::DiskUnavailable => push_words(line, "disk unavailable", ""),
+        Ending::TooLarge => push_words(line, "too large", ""),
+        Ending::NotFound(word) => push_words(line, "not found: ", word.as_str()),
+    }
+}
+
+fn status(ending: &Ending) -> Status
+    ensures { result ≡ status_of ending.now }
+{
+    match ending {
+        Ending::Outcome(Outcome::Value(_)) => Status::Done,
+        Ending::Outcome(Outcome::Failed(_)) => Status::WorkflowError,
+        Ending::WordsRefused => Status::WordsRefused,
+        Ending::SourceRefused => Status::SourceRefused { line: 1 },
+        Ending::DiskUnavailable => Status::DiskUnavailable,
+        Ending::TooLarge => Status::TooLarge,
+        Ending::NotFound(_) => Status::NotFound,
+    }
+}
+
+/// The status of a command, and the line that it prints.
+fn answer<D: Disk>(
+    alloc: Global,
+    words: &[String],
+    disk: &mut D,
+) -> Result<(Status, String), OutOfMemory>
+    ensures fresh { IfOk result (λ r. IsAnswer (map string_bytes words.now) (D.files disk.old) r.0 (string_bytes r.1)) }
+    ensures files { D.files disk.new ≡ D.files disk.old }
+{
+    let ending = run(alloc, words, disk)?;
+    let mut line = String::new(alloc);
+    push_line(&mut line, &ending)?;
+    Ok((status(&ending), line))
+}
+
+/// Prints a line, and gives its status where all of it was written.
+fn end<S: Sink>(out: &mut S, line: &str, status: Status) -> Status
+    ensures { ((result ≡ status) × (S.written out.new ≡ added (S.written out.old) line.now)) ⊎ (result ≡ Status.OutputFailed) }
+{
+    match print(out, line) {
+        Ok(()) => status,
+        Err(SinkFailed) => Status::OutputFailed,
+    }
+}
+
+/// Runs the task of a workflow's file: `run FILE TASK` prints its value or its error.
+///
+/// FILE is a lawful path, TASK has one byte or more, and neither begins with `-`, except `-` itself.
+/// Statuses: 0 and 1 for a value and an error of the workflow, 2 for other words, 3 for a file that is no source, 5 where
+/// the disk failed, 6 for want of memory, 7 for an evaluation past its limits, 10 where the sink failed,
+/// 11 where there is no such file or task. Each but 10 prints its line.
+pub fn redun_serial<D: Disk, S: Sink>(
+    alloc: Global,
+    words: &[String],
+    disk: &mut D,
+    out: &mut S,
+) -> Status
+    // A value or an error that is printed is fresh evaluation's.
+    ensures printed_is_fresh { PrintedIsFresh (map string_bytes words.now) (D.files disk.old) result (S.written out.old) (S.written out.new) }
+    // The files stay as they were.
+    ensures files { D.files disk.new ≡ D.files disk.old }
+{
+    match answer(alloc, words, disk) {
+        Ok((status, line)) => end(out, line.as_str(), status),
+        Err(OutOfMemory) => end(out, "out of memory\n", Status::OutOfMemory),
+    }
+}
