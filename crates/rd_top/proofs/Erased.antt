@@ -1,5 +1,5 @@
 -- Fresh evaluation on the model's files gives what the program's does, with digests in place of texts.
-use Rattle.std.proofs.Common.{◌≡◌, ◌≢◌, ℕ, zero, suc, ◌≤◌, le_refl, List, [], ◌∷◌, map, Option, None, Some, Result, Ok, Err, refl, sym, ap, ◌∙◌}
+use Rattle.std.proofs.Common.{◌≡◌, ◌≢◌, ℕ, zero, suc, le_refl, List, [], ◌∷◌, map, Option, None, Some, Result, Ok, Err, refl, sym, ap, ◌∙◌}
 use Rattle.rd_value.specs.declared.value.ErrorValue.{ErrorValue}
 use Rattle.rd_value.specs.declared.value.FileValue.{FileValue}
 use Rattle.rd_value.specs.declared.value.Datum.{Datum}
@@ -19,7 +19,7 @@ use Rattle.rd_top.specs.Running.{own}
 use Rattle.rd_top.specs.Shown.{line, value_line}
 use Rattle.rd_top.proofs.Deeper.{deeper}
 use Rattle.rd_top.proofs.ErasedLayers.{call_with_files, layer_with, out_with_files_expr}
-use Rattle.rd_top.proofs.BodyErased.{reduction_with, args_with, under, bind_with, body_with}
+use Rattle.rd_top.proofs.BodyErased.{reduction_with, args_with, through, bind_with, body_with}
 
 -- the answer with something else in place of its value
 abbrev pub answer_map : {A B : Type 0} → (A → B) → Answer A → Answer B
@@ -27,15 +27,10 @@ answer_map k (Gives a) = Gives (k a)
 answer_map k (Failed f) = Failed f
 answer_map k Deep = Deep
 
-join_with : {A B C A' B' C' : Type 0} (k : A → A') (l : B → B') (j : C → C') (f : A → B → C) (f' : A' → B' → C') → ((a : A) (b : B) → f' (k a) (l b) ≡ j (f a b))
-    → (a : Answer A) (b : Answer B) → join f' (answer_map k a) (answer_map l b) ≡ answer_map j (join f a b)
-join_with k l j f f' u (Gives a) (Gives b) = ap Gives (u a b)
-join_with k l j f f' u (Gives a) (Failed g) = refl
-join_with k l j f f' u (Gives a) Deep = refl
-join_with k l j f f' u (Failed e) (Gives b) = refl
-join_with k l j f f' u (Failed e) (Failed g) = refl
-join_with k l j f f' u (Failed e) Deep = refl
-join_with k l j f f' u Deep b = refl
+join_with : {A B : Type 0} (k : A → B) (a : Answer A) (as' : Answer (List A)) → join prepended (answer_map k a) (answer_map (map k) as') ≡ answer_map (map k) (join prepended a as')
+join_with k (Gives a) (Gives as') = refl
+join_with k (Failed f) (Failed g) = refl
+join_with k a as' = refl
 
 module _ {F G : Type 0} (h : F → G) where
   -- the second answers with other files what the first answers
@@ -51,13 +46,12 @@ module _ {F G : Type 0} (h : F → G) where
   answered_with : (a : Answer (List (Datum F))) (go : List (Datum F) → Out F (Datum F)) (go' : List (Datum G) → Out G (Datum G)) → Calls go go'
       → Answers (on_answer a go failing) (on_answer (answer_map (map (with_files h)) a) go' failing)
   answered_with (Gives vs) go go' u = u vs
-  answered_with (Failed f) go go' u = refl
-  answered_with Deep go go' u = refl
+  answered_with a go go' u = refl
 
   module _ (ev : Lazy F → Out F (Datum F)) (ev' : Lazy G → Out G (Datum G)) (u : Evaluators ev ev') where
     parts_with : (es : List (Lazy F)) → (parts ev' (map (with_files_expr h) es)).answer ≡ answer_map (map (with_files h)) (parts ev es).answer
     parts_with [] = refl
-    parts_with (e ∷ es) = rw (u e, parts_with es) (join_with (with_files h) (map (with_files h)) (map (with_files h)) prepended prepended (λ v vs. refl) (ev e).answer (parts ev es).answer)
+    parts_with (e ∷ es) = rw (u e, parts_with es) (join_with (with_files h) (ev e).answer (parts ev es).answer)
 
     step_with : (calls : List ℕ → List (Datum F) → Out F (Datum F)) (calls' : List ℕ → List (Datum G) → Out G (Datum G)) → ((task : List ℕ) → Calls (calls task) (calls' task))
         → (x : Lazy-F F (Lazy F)) → Answers (step calls ev x) (step calls' ev' (layer_with h x))
@@ -70,27 +64,27 @@ module _ {F G : Type 0} (h : F → G) where
     reduced_with (Fails f) = refl
 
     module _ (file : G → FileValue) where
-      entered_with : (f : Function) (r : Result (List (Datum F)) ErrorValue) → Answers (entered (under h file) ev f r) (entered file ev' f (args_with h r))
-      entered_with f (Ok args) = ap (λ r. (on_reduction ev' r).answer) (body_with h file f args) ∙ reduced_with (body (under h file) f args)
+      entered_with : (f : Function) (r : Result (List (Datum F)) ErrorValue) → Answers (entered (through h file) ev f r) (entered file ev' f (args_with h r))
+      entered_with f (Ok args) = ap (λ r. (on_reduction ev' r).answer) (body_with h file f args) ∙ reduced_with (body (through h file) f args)
       entered_with f (Err e) = refl
 
-      call_with : (f : Option Function) (task : List ℕ) → Calls (call (under h file) ev f task) (call file ev' f task)
+      call_with : (f : Option Function) (task : List ℕ) → Calls (call (through h file) ev f task) (call file ev' f task)
       call_with None task vs = refl
-      call_with (Some f) task vs = ap (λ r. (entered file ev' f r).answer) (bind_with h file f.parameters vs) ∙ entered_with f (bind (under h file) f.parameters vs)
+      call_with (Some f) task vs = ap (λ r. (entered file ev' f r).answer) (bind_with h file f.parameters vs) ∙ entered_with f (bind (through h file) f.parameters vs)
 
   zero_with : (x : Lazy-F F (Lazy F)) → Answers (at_zero x) (at_zero (layer_with h x))
   zero_with (Lazy-F.Val v) = refl
   zero_with x = refl
 
   module _ (file : G → FileValue) (m : Module) where
-    pub run_with : (n : ℕ) (e : Lazy F) → Answers (run (under h file) m n e) (run file m n (with_files_expr h e))
+    pub run_with : (n : ℕ) (e : Lazy F) → Answers (run (through h file) m n e) (run file m n (with_files_expr h e))
     unfolding run
     run_with zero e = rw (out_with_files_expr h e) (zero_with (out-Lazy F e))
     run_with (suc n) e =
-        let ev = run (under h file) m n in
+        let ev = run (through h file) m n in
         let ev' = run file m n in
         rw (out_with_files_expr h e)
-        (step_with ev ev' (run_with n) (calling (under h file) m ev) (calling file m ev') (λ task. call_with ev ev' (run_with n) file (find task m.functions) task) (out-Lazy F e))
+        (step_with ev ev' (run_with n) (calling (through h file) m ev) (calling file m ev') (λ task. call_with ev ev' (run_with n) file (find task m.functions) task) (out-Lazy F e))
 
 -- the answer as the program gives it
 abbrev pub answer_with : Answer ModelValue → Answer (Datum FileValue)
