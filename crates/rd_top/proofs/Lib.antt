@@ -5,6 +5,8 @@ pub mod Chain
 pub mod Cut
 pub mod Deeper
 pub mod Depth
+pub mod Erased
+pub mod ErasedLayers
 pub mod Evaluated
 pub mod Expressions
 pub mod Fitting
