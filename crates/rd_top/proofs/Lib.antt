@@ -22,6 +22,7 @@ pub mod Names
 pub mod NodeInd
 pub mod NodeSteps
 pub mod Parts
+pub mod Paths
 pub mod Rules
 pub mod Sources
 pub mod Tail

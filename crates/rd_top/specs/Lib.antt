@@ -1,7 +1,9 @@
 pub mod Bind
 pub mod Body
+pub mod Disk
 pub mod Errors
 pub mod Evaluating
+pub mod Files
 pub mod Fits
 pub mod Form
 pub mod Fresh
