@@ -1,12 +1,12 @@
 -- The files that the entries of a map make, looked up by the bytes of a path.
-use Rattle.std.proofs.Common.{◌≡◌, ℕ, ◌==◌, Bool, true, false, cond, List, [], ◌∷◌, ap, sym, subst, refl, ◌∙◌, Some, IfOk}
+use Rattle.std.proofs.Common.{◌≡◌, ℕ, ◌==◌, cond, List, [], ◌∷◌, ap, sym, subst, refl, ◌∙◌, Some, IfOk}
 use Rattle.std.specs.declared.option.Option.{Option}
 use Rattle.std.specs.Cmp.Lexicographic.{slice_cmp, pointwise, nat_list_cmp_total}
 use Rattle.rd_top.specs.Files.{Files, files_of}
 use Rattle.rd_top.specs.Disk.{Finds, found}
 use Rattle.rd_top.specs.declared.disk.Found.{Found}
 use Rattle.rd_top.specs.declared.disk.DiskError.{DiskError}
-use Rattle.std.specs.FinMap.{FinMap, from_entries, get, insert, find, get-from_entries, get-insert, same_map}
+use Rattle.std.specs.FinMap.{get, insert, find, get-from_entries, get-insert, same_map}
 use Rattle.std.specs.declared.result.Result.{Result}
 use Rattle.std.specs.Ordering.{nat_cmp, is_eq}
 use Rattle.std.specs.Cmp.{eq_by_cmp_equiv}

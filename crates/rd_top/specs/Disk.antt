@@ -1,5 +1,5 @@
 -- What a read finds.
-use Rattle.std.specs.Prelude.{◌≡◌, ℕ, ◌^◌, List, length, nat_le, if◌then◌else◌, IfOk, IfSome, None, Some}
+use Rattle.std.specs.Prelude.{◌≡◌, ℕ, List, length, nat_le, if◌then◌else◌, IfOk, IfSome, None, Some}
 use Rattle.std.specs.declared.option.Option.{Option}
 use Rattle.std.specs.declared.result.Result.{Result}
 use Rattle.std.specs.FinMap.{get}

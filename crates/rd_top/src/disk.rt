@@ -6,10 +6,13 @@ ghost use Rattle.rd_base.specs.Causes.{Rose};
 ghost use Rattle.rd_top.specs.Files.{Files};
 ghost use Rattle.rd_top.specs.Disk.{Finds};
 
+mod folder;
 mod memory;
+#[cfg(test)]
+mod tests;
 
+pub use folder::Folder;
 pub use memory::MemoryDisk;
-
 use rd_base::{Bytes, Path};
 use std::alloc::Global;
 

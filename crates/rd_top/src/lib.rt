@@ -17,6 +17,6 @@ mod shown;
 mod source;
 mod tree;
 
-pub use disk::{Disk, DiskError, Found, MemoryDisk};
+pub use disk::{Disk, DiskError, Folder, Found, LONGEST_FILE, MemoryDisk};
 pub use serial::redun_serial;
 pub use source::one_module;

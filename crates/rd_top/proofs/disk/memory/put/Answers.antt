@@ -1,4 +1,3 @@
-use Rattle.std.proofs.Common.{rules}
 use Rattle.rd_top.proofs.Paths.{put_path}
 use Rattle.rd_top.proofs.disk.memory.put.Goals as goal
 
