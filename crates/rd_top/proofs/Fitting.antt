@@ -13,7 +13,7 @@ use Rattle.rd_top.specs.Fits.{most_nested, Fits, FreshGives}
 use Rattle.rd_top.specs.Evaluating.{answer_of, Within, IsPast, Evaluates, at_depth, met_out}
 use Rattle.rd_top.proofs.Deeper.{deeper}
 
-not_deep : (y : Outcome) → answer_of y ≢ Deep
+pub not_deep : (y : Outcome) → answer_of y ≢ Deep
 not_deep (outcome.Value v) e = cc
 not_deep (outcome.Failed f) e = cc
 

@@ -1,3 +1,4 @@
+pub mod Answering
 pub mod Asked
 pub mod Binding
 pub mod BodyErased
@@ -26,6 +27,7 @@ pub mod NodeInd
 pub mod NodeSteps
 pub mod Parts
 pub mod Paths
+pub mod Pieces
 pub mod Places
 pub mod Rules
 pub mod Sources

@@ -1,9 +1,8 @@
 //! The call that the program makes.
 
-ghost use Rattle.std.specs.Prelude.{◌≡◌, ◌⊎◌, ◌++◌, Ok, IfOk, OnOk, map, string_bytes};
-ghost use Rattle.rd_base.specs.Causes.{Rose};
+ghost use Rattle.std.specs.Prelude.{◌≡◌, ◌⊎◌, ◌++◌, IfOk, OnOk, map, string_bytes};
 ghost use Rattle.rd_base.specs.Sink.{added};
-ghost use Rattle.rd_top.specs.Printed.{OfModule, OfSource, OfRun, PrintedIsFresh, IsAnswer, line_of, status_of, outcome_status};
+ghost use Rattle.rd_top.specs.Printed.{OfModule, OfSource, OfRun, PrintedIsFresh, IsAnswer, line_of, status_of};
 ghost use Rattle.rd_top.specs.Shown as shown;
 
 use crate::command::read_command;
@@ -70,7 +69,6 @@ fn run_source(alloc: Global, source: &[u8], task: &Text) -> Result<Ending, OutOf
 fn run<D: Disk>(alloc: Global, words: &[String], disk: &mut D) -> Result<Ending, OutOfMemory>
     ensures fresh { IfOk result (OfRun (map string_bytes words.now) (D.files disk.old)) }
     ensures files { D.files disk.new ≡ D.files disk.old }
-    ensures cause { result ≡ Ok Ending.DiskUnavailable → Rose (D.faults disk.old) (D.faults disk.new) }
 {
     let command = match read_command(alloc, words)? {
         Some(command) => command,
