@@ -1,5 +1,5 @@
 -- `Items` as a type that may hold the type that holds it.
-use mathlib.Core.Path.{◌≡◌, refl, sym, ap}
+use mathlib.Core.Path.{◌≡◌, refl, sym}
 use mathlib.Core.Logic.{◌⊎◌, inl, inr}
 use mathlib.Core.List.{List, []}
 use mathlib.Core.Former.{Former, this, const, pair, or, list, via, children}
