@@ -1,12 +1,12 @@
 -- Deeper evaluation is the same, once it isn't Deep.
-use Rattle.std.proofs.Common.{◌≡◌, ◌≢◌, ℕ, zero, suc, ◌+◌, ◌-◌, ◌≤◌, List, [], ◌∷◌, refl, ap, ◌∙◌, arith}
+use Rattle.std.proofs.Common.{◌≡◌, ◌≢◌, ℕ, zero, suc, ◌+◌, ◌-◌, ◌≤◌, List, [], ◌∷◌, refl, sym, ap, ◌∙◌, arith}
 use Rattle.rd_value.specs.declared.value.FileValue.{FileValue}
 use Rattle.rd_value.specs.declared.value.Datum.{Datum}
 use Rattle.rd_value.specs.declared.expr.Lazy.{Lazy, out-Lazy}
 use Rattle.rd_value.specs.declared.expr.Lazy.TheOpen.{Lazy-F}
 use Rattle.rd_value.specs.declared.failure.Failure.{Failure}
 use Rattle.rd_top.specs.declared.tree.Module.{Module}
-use Rattle.rd_top.specs.Fresh.{Answer, Gives, Failed, Deep, Out, plain, before, join, both, on_answer, then_, inside, find, calling, step, at_zero, run}
+use Rattle.rd_top.specs.Fresh.{Answer, Gives, Failed, Deep, Out, plain, before, join, both, on_answer, then_, inside, find, calling, step, at_zero, run, fresh, trace, event, Met}
 use Rattle.rd_top.proofs.Kept.{Relation, Keeps, step_kept, call_kept}
 
 -- the second is the first, unless that is Deep
@@ -67,3 +67,11 @@ module _ {F : Type 0} (file : F → FileValue) (m : Module) where
 
   pub deeper : (n j : ℕ) → n ≤ j → (e : Lazy F) → UpTo F (Datum F) (run file m n e) (run file m j e)
   deeper n j l e h = deeper_by n (j - n) e h ∙ ap (λ i. run file m i e) (omega arith)
+
+  pub same_answer : (n k : ℕ) → n ≤ k → (e : Lazy F) → fresh file m n e ≢ Deep → fresh file m k e ≡ fresh file m n e
+  unfolding fresh
+  same_answer n k l e h = sym (ap (λ o. o.answer) (deeper n k l e h))
+
+  pub same_events : (n k : ℕ) → n ≤ k → (e : Lazy F) → fresh file m n e ≢ Deep → trace file m k e ≡ trace file m n e
+  unfolding fresh trace
+  same_events n k l e h = sym (ap (λ (o : Out F (Datum F)). event (Met e) ∷ o.events) (deeper n k l e h))

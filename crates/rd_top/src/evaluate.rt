@@ -1,6 +1,6 @@
 //! Fresh evaluation by plain recursion, within its limits.
 
-ghost use Rattle.std.specs.Prelude.{◌≡◌, ◌≤◌, List, [], IfOk, OnOk, Err};
+ghost use Rattle.std.specs.Prelude.{◌≡◌, ◌≢◌, ◌≤◌, ℕ, List, [], IfOk, OnOk, Err};
 ghost use Rattle.std.specs.Option.{option_copied};
 ghost use Rattle.rd_top.specs.Body.{body};
 ghost use Rattle.rd_top.specs.Errors as errors;
@@ -10,6 +10,8 @@ ghost use Rattle.rd_top.specs.Evaluating.{Evaluates, answer_of, answers_of, ahea
 ghost use Rattle.rd_value.specs.declared.class.Class.TheVariants as class;
 ghost use Rattle.rd_value.specs.declared.value.FileValue.{FileValue};
 ghost use Rattle.rd_value.specs.declared.value.Datum.{Datum};
+ghost use Rattle.rd_value.specs.Model.{ModelExpr, file_of};
+ghost use Rattle.rd_top.specs.declared.tree.Module.{Module};
 ghost use Rattle.rd_top.specs.Running.{own};
 
 use crate::bind::bind;
@@ -265,3 +267,9 @@ pub fn evaluate(alloc: Global, module: &Module, expr: &Expr) -> Result<Outcome, 
         Err(stop) => Err(stop),
     }
 }
+
+/// Deeper evaluation is the same: an answer that isn't Deep stays at every depth from its own on, with all that happens.
+pub fn deeper_is_the_same()
+    ensures answer { («module» : Module) (e : ModelExpr) (n k : ℕ) → n ≤ k → fresh.fresh file_of «module» n e ≢ fresh.Deep → fresh.fresh file_of «module» k e ≡ fresh.fresh file_of «module» n e }
+    ensures events { («module» : Module) (e : ModelExpr) (n k : ℕ) → n ≤ k → fresh.fresh file_of «module» n e ≢ fresh.Deep → fresh.trace file_of «module» k e ≡ fresh.trace file_of «module» n e }
+{}

@@ -18,5 +18,6 @@ mod source;
 mod tree;
 
 pub use disk::{Disk, DiskError, Folder, Found, LONGEST_FILE, MemoryDisk};
+pub use evaluate::deeper_is_the_same;
 pub use serial::redun_serial;
 pub use source::one_module;

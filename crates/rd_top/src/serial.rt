@@ -167,3 +167,6 @@ pub fn redun_serial<D: Disk, S: Sink>(
         Err(OutOfMemory) => end(out, "out of memory\n", Status::OutOfMemory),
     }
 }
+
+#[cfg(test)]
+mod tests;
