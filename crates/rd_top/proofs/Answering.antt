@@ -1,5 +1,5 @@
 -- From what a run came to, to what is printed.
-use Rattle.std.proofs.Common.{◌≡◌, ◌≢◌, ◌⊎◌, inl, inr, ℕ, ◌≤◌, Bool, true, false, cond, List, [], length, Option, None, Some, Result, Ok, Err, IfOk, IfSome, refl, sym, ap, subst, ◌∙◌, arith}
+use Rattle.std.proofs.Common.{◌≡◌, ◌⊎◌, inl, inr, ℕ, ◌≤◌, Bool, true, false, cond, List, length, Option, None, Some, Result, Ok, Err, IfOk, IfSome, refl, sym, ap, subst, ◌∙◌, arith}
 use Rattle.std.specs.Prelude.{nat_le}
 use Rattle.std.specs.FinMap.{get}
 use Rattle.rd_base.specs.declared.memory.OutOfMemory.{OutOfMemory}
@@ -10,7 +10,6 @@ use Rattle.rd_base.specs.Sink.{added}
 use Rattle.rd_value.specs.Model.{ModelValue}
 use Rattle.rd_value.specs.declared.failure.Outcome.{Outcome}
 use Rattle.rd_value.specs.declared.failure.Outcome.TheVariants as outcome
-use Rattle.rd_top.specs.declared.disk.Found.{Found}
 use Rattle.rd_top.specs.declared.disk.Found.TheVariants as found_
 use Rattle.rd_top.specs.declared.serial.Ending.{Ending}
 use Rattle.rd_top.specs.declared.serial.Ending.TheVariants as ending
@@ -21,7 +20,7 @@ use Rattle.rd_top.specs.Evaluating.{answer_of}
 use Rattle.rd_top.specs.Fresh.{Answer, Gives, Failed, Deep}
 use Rattle.rd_top.specs.Running.{own}
 use Rattle.rd_top.specs.Shown.{value_line, failure_line}
-use Rattle.rd_top.specs.Printed.{IsShown, ShowsFresh, PrintedIsFresh, IsOutcome, OfSource, OfFile, OfRun, IsAnswer, outcome_line, outcome_status, line_of, status_of}
+use Rattle.rd_top.specs.Printed.{IsShown, ShowsFresh, PrintedIsFresh, OfSource, OfFile, OfRun, IsAnswer, outcome_line, outcome_status, line_of, status_of}
 use Rattle.rd_top.proofs.Erased.{answer_with, root_gives, erased_line}
 use Rattle.rd_top.proofs.Fitting.{not_deep}
 

@@ -1,5 +1,5 @@
 -- The number of arguments against that of the parameters.
-use Rattle.std.proofs.Common.{◌≡◌, ℕ, suc, ◌<◌, ◌≤◌, List, [], ◌∷◌, length, Option, None, Some, refl, arith}
+use Rattle.std.proofs.Common.{◌≡◌, ℕ, ◌<◌, ◌≤◌, List, [], ◌∷◌, length, None, Some, refl, arith}
 use Rattle.std.specs.Prelude.{slice_get}
 use Rattle.rd_top.specs.Bind.{mismatch, too_many, missing}
 

@@ -1,5 +1,5 @@
 -- A chain as it is run: its steps, its first operand, and then operand by operand.
-use Rattle.std.proofs.Common.{◌≡◌, ℕ, ◌+◌, ◌-◌, ◌≤◌, ◌<◌, Bool, true, cond, List, [], ◌∷◌, map, length, drop, get_or, Option, Result, Ok, Err, refl, sym, ap, ◌∙◌, suc, zero, arith}
+use Rattle.std.proofs.Common.{◌≡◌, ℕ, ◌+◌, ◌-◌, ◌≤◌, ◌<◌, cond, List, [], ◌∷◌, length, drop, get_or, Option, Ok, Err, refl, sym, ap, ◌∙◌, suc}
 use Rattle.std.specs.Prelude.{nat_le}
 use borrow.Author.Tests.{le-leb}
 use Rattle.rd_value.proofs.Walks.{item_first, none_left}

@@ -1,12 +1,12 @@
 -- Deeper evaluation is the same, once it isn't Deep.
-use Rattle.std.proofs.Common.{◌≡◌, ◌≢◌, ℕ, zero, suc, ◌+◌, ◌-◌, ◌≤◌, List, [], ◌∷◌, refl, sym, ap, ◌∙◌, arith}
+use Rattle.std.proofs.Common.{◌≡◌, ◌≢◌, ℕ, zero, suc, ◌+◌, ◌-◌, ◌≤◌, List, ◌∷◌, refl, sym, ap, ◌∙◌, arith}
 use Rattle.rd_value.specs.declared.value.FileValue.{FileValue}
 use Rattle.rd_value.specs.declared.value.Datum.{Datum}
 use Rattle.rd_value.specs.declared.expr.Lazy.{Lazy, out-Lazy}
 use Rattle.rd_value.specs.declared.expr.Lazy.TheOpen.{Lazy-F}
 use Rattle.rd_value.specs.declared.failure.Failure.{Failure}
 use Rattle.rd_top.specs.declared.tree.Module.{Module}
-use Rattle.rd_top.specs.Fresh.{Answer, Gives, Failed, Deep, Out, plain, before, join, both, on_answer, then_, inside, find, calling, step, at_zero, run, fresh, trace, event, Met}
+use Rattle.rd_top.specs.Fresh.{Answer, Gives, Failed, Deep, Out, before, join, both, on_answer, then_, inside, find, calling, step, at_zero, run, fresh, trace, event, Met}
 use Rattle.rd_top.proofs.Kept.{Relation, Keeps, step_kept, call_kept}
 
 -- the second is the first, unless that is Deep

@@ -1,5 +1,5 @@
 -- What an evaluator that counts returns, combinator by combinator.
-use Rattle.std.proofs.Common.{◌≡◌, ℕ, zero, suc, ◌+◌, ◌-◌, ◌<◌, ◌≤◌, ◌^◌, ◌⊎◌, inl, inr, Bool, true, false, cond, List, [], ◌∷◌, ◌++◌, map, length, Option, None, Some, Result, Ok, Err, refl, sym, ap, ◌∙◌, subst, arith}
+use Rattle.std.proofs.Common.{◌≡◌, ℕ, zero, suc, ◌+◌, ◌-◌, ◌<◌, ◌≤◌, ◌^◌, inl, inr, List, [], ◌∷◌, ◌++◌, map, length, Option, None, Some, Result, Ok, Err, refl, sym, ap, ◌∙◌, subst, arith}
 use Rattle.std.specs.Option.{option_copied}
 use Rattle.std.specs.Prelude.{min}
 use denote.Bor.{Bor}
@@ -14,7 +14,6 @@ use Rattle.rd_value.specs.declared.expr.Lazy.TheOpen.{Lazy-F}
 use Rattle.rd_value.specs.declared.failure.Failure.{Failure}
 use Rattle.rd_value.specs.declared.failure.Outcome.{Outcome}
 use Rattle.rd_value.specs.declared.failure.Outcome.TheVariants as outcome
-use Rattle.rd_top.specs.declared.evaluate.Gathered.{Gathered}
 use Rattle.rd_top.specs.declared.evaluate.Gathered.TheVariants as gathered
 use Rattle.rd_top.specs.declared.evaluate.Stop.{Stop}
 use Rattle.rd_top.specs.declared.evaluate.Stop.TheVariants.{TooLarge, OutOfMemory}
@@ -26,9 +25,9 @@ use Rattle.rd_top.specs.Errors.{in_task, raised}
 use Rattle.rd_top.specs.Bind.{bind}
 use Rattle.rd_top.specs.Body.{body}
 use Rattle.rd_top.specs.Running.{own, reduction_of}
-use Rattle.rd_top.specs.Fresh.{Visit, Event, Bound, Unbound, Met, Answer, Gives, Failed, Deep, Out, plain, failing, before, on_answer, then_, inside, under, event, find, parts, go_on, on_reduction, visit, entered, call, calling, step, at_zero, run}
+use Rattle.rd_top.specs.Fresh.{Visit, Event, Bound, Unbound, Met, Answer, Gives, Failed, Deep, Out, plain, failing, before, on_answer, then_, inside, under, event, find, parts, on_reduction, visit, entered, call, calling, step, at_zero, run}
 use Rattle.rd_top.specs.Fits.{most_met, lazies, met_in, count_met}
-use Rattle.rd_top.specs.Evaluating.{answer_of, answers_of, Within, IsPast, Evaluates, at_depth, call_out, values_out, body_out, met_out}
+use Rattle.rd_top.specs.Evaluating.{answer_of, answers_of, IsPast, Evaluates, at_depth, call_out, values_out, body_out, met_out}
 
 pub count-append : {F : Type 0} (es fs : List (Event F)) → count_met (es ++ fs) ≡ count_met es + count_met fs
 unfolding count_met

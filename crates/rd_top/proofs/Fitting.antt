@@ -1,5 +1,5 @@
 -- A whole evaluation.
-use Rattle.std.proofs.Common.{◌≡◌, ◌≢◌, ℕ, ◌+◌, ◌≤◌, inl, inr, [], ◌∷◌, Result, Ok, Err, sym, ap, ◌∙◌, arith}
+use Rattle.std.proofs.Common.{◌≡◌, ◌≢◌, ℕ, inl, inr, Result, Ok, Err, sym, ap, ◌∙◌, arith}
 use Rattle.rd_value.specs.declared.value.FileValue.{FileValue}
 use Rattle.rd_value.specs.declared.expr.Lazy.{Lazy}
 use Rattle.rd_value.specs.declared.failure.Outcome.{Outcome}
@@ -8,9 +8,9 @@ use Rattle.rd_top.specs.declared.evaluate.Stop.{Stop}
 use Rattle.rd_top.specs.declared.evaluate.Stop.TheVariants.{TooLarge, OutOfMemory}
 use Rattle.rd_top.specs.declared.tree.Module.{Module}
 use Rattle.rd_top.specs.Running.{own}
-use Rattle.rd_top.specs.Fresh.{Answer, Deep, fresh, trace, run}
+use Rattle.rd_top.specs.Fresh.{Deep, fresh, trace}
 use Rattle.rd_top.specs.Fits.{most_nested, Fits, FreshGives}
-use Rattle.rd_top.specs.Evaluating.{answer_of, Within, IsPast, Evaluates, at_depth, met_out}
+use Rattle.rd_top.specs.Evaluating.{answer_of, IsPast, Evaluates, at_depth, met_out}
 use Rattle.rd_top.proofs.Deeper.{deeper}
 
 pub not_deep : (y : Outcome) → answer_of y ≢ Deep

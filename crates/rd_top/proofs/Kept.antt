@@ -1,5 +1,5 @@
 -- A relation of outcomes that the combinators keep is kept by evaluation.
-use Rattle.std.proofs.Common.{◌≡◌, ℕ, zero, suc, List, [], ◌∷◌, Option, None, Some, Result, Ok, Err}
+use Rattle.std.proofs.Common.{ℕ, List, [], ◌∷◌, Option, None, Some, Result, Ok, Err}
 use Rattle.rd_value.specs.declared.value.ErrorValue.{ErrorValue}
 use Rattle.rd_value.specs.declared.value.FileValue.{FileValue}
 use Rattle.rd_value.specs.declared.value.Datum.{Datum}
@@ -7,10 +7,9 @@ use Rattle.rd_value.specs.declared.expr.Lazy.{Lazy}
 use Rattle.rd_value.specs.declared.expr.Lazy.TheOpen.{Lazy-F}
 use Rattle.rd_value.specs.declared.failure.Failure.{Failure}
 use Rattle.rd_top.specs.declared.tree.Function.{Function}
-use Rattle.rd_top.specs.Errors.{in_task}
 use Rattle.rd_top.specs.Bind.{bind}
 use Rattle.rd_top.specs.Body.{Reduction, Reduces, Fails, body}
-use Rattle.rd_top.specs.Fresh.{Visit, Bound, Unbound, Met, Event, Answer, Out, plain, failing, before, both, then_, event, inside, wrote, parts, prepended, go_on, on_reduction, visit, entered, call, step}
+use Rattle.rd_top.specs.Fresh.{Visit, Bound, Met, Event, Out, failing, before, both, then_, event, inside, wrote, parts, prepended, go_on, on_reduction, entered, call, step}
 
 -- of two outcomes of one type
 abbrev pub Relation : Type 0 → Type 1

@@ -1,8 +1,7 @@
 -- The meaning of each kind of expression of a source, from that of its parts.
-use Rattle.std.proofs.Common.{◌≡◌, ℕ, List, [], map, length, Ok}
+use Rattle.std.proofs.Common.{◌≡◌, ℕ, List, map}
 use Rattle.rd_value.specs.declared.value.FileValue.{FileValue}
 use Rattle.rd_value.specs.declared.expr.Lazy.{Lazy}
-use Rattle.rd_value.specs.declared.expr.Lazy.TheVariants as lazy
 use Rattle.rd_top.specs.declared.tree.Operator.{Operator}
 use Rattle.rd_top.specs.declared.tree.Literal.{Literal}
 use Rattle.rd_top.specs.declared.tree.Node.{Node}
@@ -10,7 +9,7 @@ use Rattle.rd_top.specs.declared.tree.Node.TheVariants as variant
 use Rattle.rd_top.specs.declared.tree.Node.TheViews as made
 use Rattle.rd_top.specs.declared.tree.Node.TheOpen.{Node-F}
 use Rattle.rd_top.specs.declared.tree.Node.TheFolds.{fold-roll-Node}
-use Rattle.rd_top.specs.Body.{State, Ran, and_then, spend, all, found, literal_value, measured, links, node, node_at}
+use Rattle.rd_top.specs.Body.{State, Ran, node, node_at}
 
 module _ {F : Type 0} (file : F → FileValue) where
   abbrev Meaning : Type 0

@@ -1,5 +1,5 @@
 -- Parts that are evaluated one after the other.
-use Rattle.std.proofs.Common.{◌≡◌, ℕ, suc, ◌+◌, ◌<◌, ◌≤◌, inl, inr, Bool, true, false, List, [], ◌∷◌, ◌++◌, length, drop, get_or, Option, None, Some, Result, Ok, Err, refl, sym, ap, ◌∙◌, append_assoc, append-nil, arith}
+use Rattle.std.proofs.Common.{◌≡◌, ℕ, ◌+◌, ◌<◌, ◌≤◌, inl, inr, true, false, List, [], ◌∷◌, ◌++◌, length, drop, get_or, Option, None, Some, Ok, Err, refl, sym, ap, ◌∙◌, append_assoc, append-nil, arith}
 use Rattle.std.specs.Option.{is_some}
 use Rattle.rd_value.proofs.Walks.{item_first, none_left}
 use Rattle.rd_value.specs.declared.value.FileValue.{FileValue}
@@ -13,7 +13,7 @@ use Rattle.rd_top.specs.declared.evaluate.Stop.{Stop}
 use Rattle.rd_top.specs.declared.evaluate.Stop.TheVariants.{TooLarge, OutOfMemory}
 use Rattle.rd_top.specs.Fresh.{Answer, Gives, Failed, Deep, Out, join, both, prepended, parts}
 use Rattle.rd_top.specs.Fits.{most_met, count_met}
-use Rattle.rd_top.specs.Evaluating.{answer_of, answers_of, Within, IsPast, Evaluates, ahead}
+use Rattle.rd_top.specs.Evaluating.{answer_of, answers_of, IsPast, Evaluates, ahead}
 use Rattle.rd_top.proofs.Evaluated.{count-append}
 
 abbrev Values : Type 0

@@ -1,5 +1,5 @@
 -- The argument for a parameter, by its place.
-use Rattle.std.proofs.Common.{◌≡◌, ℕ, zero, suc, ◌+◌, length, arith, Bool, true, false, cond, List, [], ◌∷◌, Option, None, Some, refl, sym, ap, ◌∙◌}
+use Rattle.std.proofs.Common.{◌≡◌, ℕ, suc, ◌+◌, length, arith, Bool, true, false, cond, List, [], ◌∷◌, Option, None, Some, refl, sym, ap, ◌∙◌}
 use Rattle.std.specs.Prelude.{position, slice_get, nat_lt, not}
 use Rattle.std.specs.List.{position_or_len}
 use Rattle.std.proofs.lemmas.Bool.Decides.{nat_tests}
@@ -7,7 +7,6 @@ use borrow.Author.Tests.{lt-ltb}
 use Rattle.std.specs.Option.{option_map}
 use Rattle.std.specs.Str.{bytes_eq}
 use Rattle.rd_value.specs.declared.value.Datum.{Datum}
-use Rattle.rd_value.specs.declared.expr.Lazy.{Lazy}
 use Rattle.rd_value.specs.declared.expr.Lazy.TheVariants as lazy
 use Rattle.rd_top.specs.Body.{bound_names}
 

@@ -1,5 +1,5 @@
 -- The meaning of a body: big steps over its tree, with the steps that are left.
-use Rattle.std.specs.Prelude.{ℕ, ◌+◌, ◌-◌, ◌/◌, nat_le, List, [], ◌∷◌, length, codes, if◌then◌else◌, Option, None, Some, Result, Ok, Err}
+use Rattle.std.specs.Prelude.{ℕ, ◌-◌, ◌/◌, nat_le, List, [], ◌∷◌, length, codes, if◌then◌else◌, Option, None, Some, Result, Ok, Err}
 use Rattle.std.specs.Str.{bytes_eq}
 use Rattle.rd_value.specs.declared.class.Class.TheVariants.{TypeError, NameError}
 use Rattle.rd_value.specs.declared.value.ErrorValue.{ErrorValue}

@@ -6,10 +6,9 @@ use Rattle.rd_base.specs.declared.status.Status.{Status}
 use Rattle.rd_base.specs.declared.status.Status.TheVariants.{Done, WorkflowError, WordsRefused, SourceRefused, DiskUnavailable, TooLarge, NotFound}
 use Rattle.rd_base.specs.Status.{number_of}
 use Rattle.rd_base.specs.Sink.{added}
-use Rattle.rd_value.specs.Model.{ModelFile, ModelValue, file_of}
+use Rattle.rd_value.specs.Model.{ModelValue, file_of}
 use Rattle.rd_value.specs.declared.expr.Lazy.{Lazy}
 use Rattle.rd_value.specs.declared.expr.Lazy.TheVariants as lazy
-use Rattle.rd_value.specs.declared.value.FileValue.{FileValue}
 use Rattle.rd_value.specs.declared.failure.Outcome.{Outcome}
 use Rattle.rd_value.specs.declared.failure.Outcome.TheVariants.{Value, Failed}
 use Rattle.rd_top.specs.declared.tree.Module.{Module}

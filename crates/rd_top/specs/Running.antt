@@ -1,9 +1,7 @@
 -- What running a part of a body returns.
 use Rattle.std.specs.Prelude.{◌≡◌, [], ℕ, ◌-◌, ◌≤◌, ◌<◌, List, Result, Ok, Err}
-use Rattle.rd_value.specs.declared.value.ErrorValue.{ErrorValue}
 use Rattle.rd_value.specs.declared.value.FileValue.{FileValue}
 use Rattle.rd_value.specs.declared.value.Datum.{Datum}
-use Rattle.rd_value.specs.declared.expr.Lazy.{Lazy}
 use Rattle.rd_top.specs.declared.body.Halt.{Halt}
 use Rattle.rd_top.specs.declared.body.Halt.TheVariants.{Raised, OutOfMemory}
 use Rattle.rd_top.specs.Errors.{steps_limit}

@@ -1,7 +1,5 @@
 -- What is printed of an outcome.
 use Rattle.std.specs.Prelude.{ℕ, List, [], ◌∷◌, ◌++◌, codes}
-use Rattle.rd_base.specs.declared.status.Status.{Status}
-use Rattle.rd_base.specs.declared.status.Status.TheVariants.{Done, WorkflowError}
 use Rattle.rd_value.specs.declared.value.FileValue.{FileValue}
 use Rattle.rd_value.specs.declared.value.Datum.{Datum}
 use Rattle.rd_value.specs.declared.failure.Failure.{Failure}

@@ -27,7 +27,11 @@ pub fn read_command(alloc: Global, words: &[String]) -> Result<Option<Command>, 
 {
     match words {
         [run, file, task] => {
-            if run.as_str() != "run" || !is_operand(file.as_str()) || !is_operand(task.as_str()) || task.as_str().is_empty() {
+            if run.as_str() != "run"
+                || !is_operand(file.as_str())
+                || !is_operand(task.as_str())
+                || task.as_str().is_empty()
+            {
                 return Ok(None);
             }
             match Path::new(alloc, file.as_str()) {

@@ -16,8 +16,8 @@ ghost use Rattle.rd_top.specs.Running.{own};
 
 use crate::bind::bind;
 use crate::body::{Reduction, run_body};
-use crate::raise::raised;
 use crate::lazies::lazies;
+use crate::raise::raised;
 use crate::tree::{Function, Module};
 use rd_base::{Copies, Items, OutOfMemory, Text};
 use rd_value::class::Class;
@@ -167,13 +167,7 @@ impl<'m> Evaluation<'m> {
     /// A call of values.
     #[cycle(evaluate)]
     #[tactic(auto, using(crate::proofs::Evaluated::enter_rules))]
-    fn enter(
-        &self,
-        depth: u32,
-        task: &Text,
-        values: Values,
-        met: &mut u32,
-    ) -> Result<Outcome, Stop>
+    fn enter(&self, depth: u32, task: &Text, values: Values, met: &mut u32) -> Result<Outcome, Stop>
         requires { met.old ≤ fits.most_met }
         ensures gives { Evaluates answer_of (values_out self.now.tasks.now depth task.now values) met.old met.new result }
         ensures room { met.new ≤ fits.most_met }
@@ -183,11 +177,7 @@ impl<'m> Evaluation<'m> {
             Some(function) => {
                 match bind(self.alloc, function.parameters.as_slice(), values)? {
                     Ok(arguments) => self.body(depth, function, &arguments, met),
-                    Err(error) => Ok(Outcome::Failed(in_task(
-                        self.alloc,
-                        &function.name,
-                        error,
-                    )?)),
+                    Err(error) => Ok(Outcome::Failed(in_task(self.alloc, &function.name, error)?)),
                 }
             }
         }

@@ -54,8 +54,8 @@ pub fn lazies(expr: &Expr) -> u32
             keywords,
         } => {
             lazies_in(positional.as_slice())
-            .saturating_add(lazies_named(keywords.as_slice()))
-            .saturating_add(1)
+                .saturating_add(lazies_named(keywords.as_slice()))
+                .saturating_add(1)
         }
         Expr::Op { op: _, parts } => lazies_in(parts.as_slice()).saturating_add(1),
         Expr::ListOf(parts) => lazies_in(parts.as_slice()).saturating_add(1),

@@ -29,13 +29,17 @@ const CASES: [Case; 21] = [
         status: 1,
     },
     Case {
-        source: Some("@task\ndef f(a, b): return a\n@task\ndef main(): return f('a', f('b', 'c', 'd'))\n"),
+        source: Some(
+            "@task\ndef f(a, b): return a\n@task\ndef main(): return f('a', f('b', 'c', 'd'))\n",
+        ),
         words: RUN,
         line: "error in f: TypeError: 'too many arguments'\n",
         status: 1,
     },
     Case {
-        source: Some("@task\ndef f(a, b): return b + a\n@task\ndef main(): return f('a', f('b', 'c'))\n"),
+        source: Some(
+            "@task\ndef f(a, b): return b + a\n@task\ndef main(): return f('a', f('b', 'c'))\n",
+        ),
         words: RUN,
         line: "'cba'\n",
         status: 0,
@@ -178,7 +182,12 @@ fn runs(rt: HostRuntime) {
 }
 
 /// A run of a small file, where the write of this number and the read of the file fail, or don't.
-fn fails(alloc: Global, failing_write: u64, is_narrow: bool, disk_fails: bool) -> Option<(u8, bool)> {
+fn fails(
+    alloc: Global,
+    failing_write: u64,
+    is_narrow: bool,
+    disk_fails: bool,
+) -> Option<(u8, bool)> {
     let words = strings(alloc, RUN)?;
     let mut disk = disk_of(alloc, Some("@task\ndef main(): return 'abc'\n"))?;
     let mut out = MemorySink::new(alloc);

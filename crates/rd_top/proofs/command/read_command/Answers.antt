@@ -1,4 +1,4 @@
-use Rattle.std.proofs.Common.{◌≡◌, ℕ, List, [], ◌∷◌, map, codes, sym, ap, subst, ◌∙◌, string_bytes, Global}
+use Rattle.std.proofs.Common.{◌≡◌, ℕ, List, [], ◌∷◌, map, codes, sym, ap, subst, ◌∙◌, string_bytes}
 use Rattle.rd_base.specs.Path.{is_path}
 use Rattle.rd_top.specs.Command.{IsOperand}
 use Rattle.rd_top.proofs.Asked.{three, not_different, not_empty, lawful_where_made}

@@ -1,4 +1,3 @@
-use Rattle.std.proofs.Common.{Err}
 use Rattle.rd_top.proofs.Fitting.{fits_ok, gives_ok, too_large}
 use Rattle.rd_top.proofs.evaluate.evaluate.Goals as goal
 

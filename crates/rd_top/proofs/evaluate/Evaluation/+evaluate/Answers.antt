@@ -1,7 +1,7 @@
-use Rattle.std.proofs.Common.{◌≡◌, ℕ, ◌+◌, ◌-◌, ◌<◌, ◌≤◌, suc, length, None, ap, sym, ◌∙◌, arith}
+use Rattle.std.proofs.Common.{◌≡◌, ◌+◌, ◌-◌, suc, None, ap, sym, ◌∙◌, arith}
 use Rattle.std.proofs.lemmas.Result.{err_from_is_err_and}
 use Rattle.rd_value.specs.declared.expr.Lazy.TheVariants as lazy
-use Rattle.rd_top.specs.Evaluating.{answer_of, answers_of, at_depth, ahead}
+use Rattle.rd_top.specs.Evaluating.{answers_of, at_depth, ahead}
 use Rattle.rd_top.specs.Fits.{count_met}
 use Rattle.rd_top.specs.Fresh.{parts}
 use Rattle.rd_top.proofs.Evaluated.{expression_call, expression_other, none_by_length, no_memory}
