@@ -54,38 +54,7 @@ abbrev pub PrintedIsFresh : List (List ℕ) → Option Files → Status → Opti
 PrintedIsFresh words told status before behind =
     number_of status ≤ 1 → IfSome told (λ files. (text : List ℕ) × ShowsFresh words files status text × (behind ≡ added before text))
 
--- ---- a run, before anything is printed
-
--- what was evaluated is fresh evaluation's outcome in the source's module
-pub record IsOutcome (source task : List ℕ) (outcome : Outcome) : Type 0 where
-  pub m : Module
-  pub reads : IsSource source m
-  pub names : KeepsNames m
-  pub gives : FreshGives own m (root task) (answer_of outcome)
-
--- an outcome of a call of a module's task is fresh evaluation's
-abbrev pub OfModule : Module → List ℕ → Ending → Type 0
-OfModule m task (ending.Outcome outcome) = FreshGives own m (root task) (answer_of outcome)
-OfModule m task _ = ⊤
-
--- an outcome of a source is fresh evaluation's
-abbrev pub OfSource : List ℕ → List ℕ → Ending → Type 0
-OfSource source task (ending.Outcome outcome) = IsOutcome source task outcome
-OfSource source task _ = ⊤
-
--- an outcome of a run over these files
-pub record OfFile (words : List (List ℕ)) (files : Files) (outcome : Outcome) : Type 0 where
-  pub file : List ℕ
-  pub task : List ℕ
-  pub source : List ℕ
-  pub asks : IsRun words file task
-  pub stands : get files file ≡ Some source
-  pub is_outcome : IsOutcome source task outcome
-
--- an outcome of a run over the files that are told
-abbrev pub OfRun : List (List ℕ) → Option Files → Ending → Type 0
-OfRun words told (ending.Outcome outcome) = IfSome told (λ files. OfFile words files outcome)
-OfRun words told _ = ⊤
+-- ---- what a command comes to
 
 abbrev pub outcome_line : Outcome → List ℕ
 outcome_line (Value v) = value_line own v
@@ -112,10 +81,3 @@ status_of ending.SourceRefused = SourceRefused 1
 status_of ending.DiskUnavailable = DiskUnavailable
 status_of ending.TooLarge = TooLarge
 status_of (ending.NotFound word) = NotFound
-
--- a status and a text that show what a run came to
-pub record IsAnswer (words : List (List ℕ)) (told : Option Files) (status : Status) (text : List ℕ) : Type 0 where
-  pub ending : Ending
-  pub of_run : OfRun words told ending
-  pub status_is : status ≡ status_of ending
-  pub text_is : text ≡ line_of ending

@@ -1,8 +1,10 @@
 //! The call that the program makes.
 
-ghost use Rattle.std.specs.Prelude.{◌≡◌, ◌⊎◌, ◌++◌, IfOk, OnOk, map, string_bytes};
+ghost use Rattle.std.specs.Prelude.{◌≡◌, ◌≢◌, ◌⊎◌, ◌++◌, Ok, IfOk, OnOk, map, string_bytes};
 ghost use Rattle.rd_base.specs.Sink.{added};
-ghost use Rattle.rd_top.specs.Printed.{OfModule, OfSource, OfRun, PrintedIsFresh, IsAnswer, line_of, status_of};
+ghost use Rattle.rd_base.specs.Causes.{Rose};
+ghost use Rattle.rd_top.specs.Answered.{OfModule, OfText, Comes, Answers, Written, Answered, Completes};
+ghost use Rattle.rd_top.specs.Printed.{PrintedIsFresh, line_of, status_of};
 ghost use Rattle.rd_top.specs.Shown as shown;
 
 use crate::command::read_command;
@@ -53,7 +55,7 @@ fn run_task(alloc: Global, module: &Module, task: &Text) -> Result<Ending, OutOf
 }
 
 fn run_source(alloc: Global, source: &[u8], task: &Text) -> Result<Ending, OutOfMemory>
-    ensures { IfOk result (OfSource source.now task.now) }
+    ensures { IfOk result (OfText source.now task.now) }
 {
     let module = match read_source(alloc, source) {
         Ok(module) => module,
@@ -67,7 +69,8 @@ fn run_source(alloc: Global, source: &[u8], task: &Text) -> Result<Ending, OutOf
 }
 
 fn run<D: Disk>(alloc: Global, words: &[String], disk: &mut D) -> Result<Ending, OutOfMemory>
-    ensures fresh { IfOk result (OfRun (map string_bytes words.now) (D.files disk.old)) }
+    ensures comes { IfOk result (Comes (map string_bytes words.now) (D.files disk.old)) }
+    ensures cause { result ≡ Ok Ending.DiskUnavailable → Rose (D.faults disk.old) (D.faults disk.new) }
     ensures files { D.files disk.new ≡ D.files disk.old }
 {
     let command = match read_command(alloc, words)? {
@@ -126,7 +129,9 @@ fn answer<D: Disk>(
     words: &[String],
     disk: &mut D,
 ) -> Result<(Status, String), OutOfMemory>
-    ensures fresh { IfOk result (λ r. IsAnswer (map string_bytes words.now) (D.files disk.old) r.0 (string_bytes r.1)) }
+    ensures answered { IfOk result (λ r. Answers (map string_bytes words.now) (D.files disk.old) r.0 (string_bytes r.1)) }
+    ensures cause { IfOk result (λ r. r.0 ≡ Status.DiskUnavailable → Rose (D.faults disk.old) (D.faults disk.new)) }
+    ensures never_output { IfOk result (λ r. r.0 ≢ Status.OutputFailed) }
     ensures files { D.files disk.new ≡ D.files disk.old }
 {
     let ending = run(alloc, words, disk)?;
@@ -137,7 +142,8 @@ fn answer<D: Disk>(
 
 /// Prints a line, and gives its status where all of it was written.
 fn end<S: Sink>(out: &mut S, line: &str, status: Status) -> Status
-    ensures { ((result ≡ status) × (S.written out.new ≡ added (S.written out.old) line.now)) ⊎ (result ≡ Status.OutputFailed) }
+    ensures written { Written status line.now result (S.written out.old) (S.written out.new) }
+    ensures cause { result ≡ Status.OutputFailed → status ≢ Status.OutputFailed → Rose (S.faults out.old) (S.faults out.new) }
 {
     match print(out, line) {
         Ok(()) => status,
@@ -159,6 +165,13 @@ pub fn redun_serial<D: Disk, S: Sink>(
 ) -> Status
     // A value or an error that is printed is fresh evaluation's.
     ensures printed_is_fresh { PrintedIsFresh (map string_bytes words.now) (D.files disk.old) result (S.written out.old) (S.written out.new) }
+    // Each status comes by the command's checks, with its line; where the sink failed, a front of another status's line was added.
+    ensures answered { Answered (map string_bytes words.now) (D.files disk.old) result (S.written out.old) (S.written out.new) }
+    // The disk is unavailable only where its count of faults rose, and the output fails only where the sink's did.
+    ensures disk { result ≡ Status.DiskUnavailable → Rose (D.faults disk.old) (D.faults disk.new) }
+    ensures output { result ≡ Status.OutputFailed → Rose (S.faults out.old) (S.faults out.new) }
+    // A task that is there is run where its evaluation fits and no count of faults rose, unless memory runs out.
+    ensures complete { Completes (map string_bytes words.now) (D.files disk.old) (Rose (D.faults disk.old) (D.faults disk.new)) (Rose (S.faults out.old) (S.faults out.new)) result }
     // The files stay as they were.
     ensures files { D.files disk.new ≡ D.files disk.old }
 {
