@@ -37,7 +37,7 @@ module _ {F G : Type 0} (h : F → G) where
   abbrev pub Answers : Out F (Datum F) → Out G (Datum G) → Type 0
   Answers o p = p.answer ≡ answer_map (with_files h) o.answer
 
-  abbrev Evaluators : (Lazy F → Out F (Datum F)) → (Lazy G → Out G (Datum G)) → Type 0
+  abbrev pub Evaluators : (Lazy F → Out F (Datum F)) → (Lazy G → Out G (Datum G)) → Type 0
   Evaluators ev ev' = (e : Lazy F) → Answers (ev e) (ev' (with_files_expr h e))
 
   abbrev Calls : (List (Datum F) → Out F (Datum F)) → (List (Datum G) → Out G (Datum G)) → Type 0
@@ -49,7 +49,7 @@ module _ {F G : Type 0} (h : F → G) where
   answered_with a go go' u = refl
 
   module _ (ev : Lazy F → Out F (Datum F)) (ev' : Lazy G → Out G (Datum G)) (u : Evaluators ev ev') where
-    parts_with : (es : List (Lazy F)) → (parts ev' (map (with_files_expr h) es)).answer ≡ answer_map (map (with_files h)) (parts ev es).answer
+    pub parts_with : (es : List (Lazy F)) → (parts ev' (map (with_files_expr h) es)).answer ≡ answer_map (map (with_files h)) (parts ev es).answer
     parts_with [] = refl
     parts_with (e ∷ es) = rw (u e, parts_with es) (join_with (with_files h) (ev e).answer (parts ev es).answer)
 
@@ -91,7 +91,7 @@ abbrev pub answer_with : Answer ModelValue → Answer (Datum FileValue)
 answer_with = answer_map erase
 
 module _ (m : Module) (task : List ℕ) where
-  root_same : (n : ℕ) → fresh own m n (lazy.Call task [] []) ≡ answer_with (fresh file_of m n (lazy.Call task [] []))
+  pub root_same : (n : ℕ) → fresh own m n (lazy.Call task [] []) ≡ answer_with (fresh file_of m n (lazy.Call task [] []))
   unfolding fresh
   root_same n = ap (λ e. (run own m n e).answer) (sym (call_with_files file_of task [])) ∙ run_with file_of own m n (lazy.Call task [] [])
 

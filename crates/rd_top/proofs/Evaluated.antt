@@ -34,7 +34,7 @@ unfolding count_met
 count-append [] fs = omega arith
 count-append (e ∷ es) fs = omega (arith, count-append es fs)
 
-count_under : {F : Type 0} (c : Visit F) (es : List (Event F)) → count_met (map (under c) es) ≡ count_met es
+pub count_under : {F : Type 0} (c : Visit F) (es : List (Event F)) → count_met (map (under c) es) ≡ count_met es
 unfolding count_met
 count_under c [] = refl
 count_under c (e ∷ es) = ap (λ n. met_in e.what + n) (count_under c es)

@@ -7,6 +7,7 @@ pub mod Cut
 pub mod Deeper
 pub mod Depth
 pub mod Erased
+pub mod ErasedCounts
 pub mod ErasedLayers
 pub mod Evaluated
 pub mod Expressions
