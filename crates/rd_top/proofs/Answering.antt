@@ -1,7 +1,10 @@
 -- What a command comes to, and what is printed of it.
-use Rattle.std.proofs.Common.{◌≡◌, ◌≢◌, ◌⊎◌, inl, inr, ℕ, ◌≤◌, ◌<◌, Bool, true, false, cond, List, [], ◌∷◌, length, codes, Option, None, Some, Result, Ok, Err, IfOk, IfSome, refl, sym, ap, subst, ◌∙◌, arith}
-use Rattle.std.specs.Prelude.{nat_le}
+use Rattle.std.proofs.Common.{◌≡◌, ◌≢◌, inl, inr, ℕ, ◌≤◌, Bool, true, false, not, cond, List, [], ◌∷◌, length, codes, Option, None, Some, Result, Ok, Err, IfOk, IfSome, refl, sym, ap, subst, ◌∙◌, arith}
+use Rattle.std.specs.Prelude.{nat_le, is_some}
+use Rattle.std.specs.Option.{option_copied}
+use Rattle.std.specs.Borrow.{Bor}
 use Rattle.std.specs.FinMap.{get}
+use Rattle.std.proofs.lemmas.Bool.{leb-false}
 use Rattle.rd_base.specs.declared.memory.OutOfMemory.{OutOfMemory}
 use Rattle.rd_base.specs.declared.status.Status.{Status}
 use Rattle.rd_base.specs.declared.status.Status.TheVariants as status
@@ -9,6 +12,9 @@ use Rattle.rd_base.specs.Status.{number_of}
 use Rattle.rd_base.specs.Sink.{added}
 use Rattle.rd_value.specs.Limits.{is_within_expr}
 use Rattle.rd_value.specs.Model.{ModelValue, file_of}
+use Rattle.rd_value.specs.declared.value.FileValue.{FileValue}
+use Rattle.rd_value.specs.declared.expr.Lazy.{Lazy}
+use Rattle.rd_value.specs.declared.expr.Lazy.TheVariants as lazy
 use Rattle.rd_value.specs.declared.failure.Outcome.{Outcome}
 use Rattle.rd_value.specs.declared.failure.Outcome.TheVariants as outcome
 use Rattle.rd_top.specs.declared.tree.Module.{Module}
@@ -17,20 +23,52 @@ use Rattle.rd_top.specs.declared.disk.Found.TheVariants as found_
 use Rattle.rd_top.specs.declared.serial.Ending.{Ending}
 use Rattle.rd_top.specs.declared.serial.Ending.TheVariants as ending
 use Rattle.rd_top.specs.Command.{IsRun}
-use Rattle.rd_top.specs.Disk.{longest, found, Finds}
+use Rattle.rd_top.specs.Disk.{longest, found}
 use Rattle.rd_top.specs.Files.{Files}
 use Rattle.rd_top.specs.Source.{IsSource}
 use Rattle.rd_top.specs.Names.{KeepsNames}
 use Rattle.rd_top.specs.Evaluating.{answer_of}
-use Rattle.rd_top.specs.Fits.{Fits}
+use Rattle.rd_top.specs.Fits.{Fits, FreshGives}
 use Rattle.rd_top.specs.Fresh.{Answer, Gives, Failed, Deep, find}
 use Rattle.rd_top.specs.Running.{own}
 use Rattle.rd_top.specs.Shown.{value_line, failure_line}
 use Rattle.rd_top.specs.Printed.{root, IsShown, ShowsFresh, PrintedIsFresh, outcome_line, outcome_status, line_of, status_of}
-use Rattle.rd_top.specs.Answered.{erased, OfTask, OfModule, OfText, OfFiles, Comes, Answers, Written, Answered, Completes}
-use Rattle.rd_top.proofs.Erased.{erased_line}
+use Rattle.rd_top.specs.Answered.{erased, OfTask, OfModule, OfText, OfFiles, Comes, Written, Answered, Completes}
+use Rattle.rd_top.proofs.Erased.{answer_with, root_gives, erased_line}
+use Rattle.rd_top.proofs.ErasedCounts.{fits_with, fits_without}
 use Rattle.rd_top.proofs.Fitting.{not_deep}
 use Rattle.rd_top.proofs.Sources.{one_module}
+
+-- ---- the task that was called
+
+same_erased : (y : Answer ModelValue) → answer_with y ≡ erased y
+same_erased (Gives v) = refl
+same_erased (Failed f) = refl
+same_erased Deep = refl
+
+-- the call as the program makes it
+pub is_root : {t task : List ℕ} {ps : List (Lazy FileValue)} {ks : List (List ℕ × Lazy FileValue)} → t ≡ task → ps ≡ [] → ks ≡ [] → lazy.Call t ps ks ≡ root task
+is_root i j k = cc
+
+-- a task that was found is there
+pub is_there : {A : Type 0} (o : Option (Bor A)) (at : Option A) (b : Bool) → option_copied o ≡ at → is_some o ≡ not b → b ≡ false → at ≢ None
+is_there None at b i j f none = absurd (apart (j ∙ ap not f))
+  where
+    apart : false ≡ true → ⊥
+    apart e = absurd cc
+is_there (Some r) at b i j f none = absurd (apart (i ∙ none))
+  where
+    apart : {A : Type 0} {a : A} → Some a ≡ None → ⊥
+    apart e = absurd cc
+
+module _ (m : Module) (task : List ℕ) (there : find task m.functions ≢ None) where
+  pub of_outcome : (o : Outcome) → Fits own m (root task) → FreshGives own m (root task) (answer_of o) → OfModule m task (ending.Outcome o)
+  of_outcome o fits gives =
+      let y = root_gives m task (answer_of o) (not_deep o) gives in
+      inr (there, (fits_without m task fits, (y.0, y.1.0, y.1.1 ∙ same_erased y.0)))
+
+  pub of_too_large : (Fits own m (root task) → ⊥) → OfModule m task ending.TooLarge
+  of_too_large large = inr (there, λ fits. large (fits_with m task fits))
 
 -- ---- the file that was read
 
@@ -63,7 +101,7 @@ is_long (Some bytes) e = (bytes, refl, long (nat_le (length bytes) longest) e)
     long false e = refl
 
 no_source : (text : List ℕ) → nat_le (length text) longest ≡ false → (m : Module) → IsSource text m → KeepsNames m → ⊥
-no_source text long m s k = let short = s.has_tokens.short in omega (arith, long, short)
+no_source text long m s k = let short = s.has_tokens.short in omega (arith, leb-false (length text) longest long, short)
 
 module _ (words : List (List ℕ)) (file task : List ℕ) (asks : IsRun words file task) where
   comes_at : (told : Option Files) (f : Found) (e : Ending) → IfSome told (λ files. f ≡ found (get files file)) → ((files : Files) → f ≡ found (get files file) → OfFiles files file task e) → Comes words told e
@@ -147,10 +185,13 @@ outcome_of (ending.NotFound word) small = absurd (omega (arith, small))
 
 apart_words : {o : Outcome} → ending.Outcome o ≡ ending.WordsRefused → ⊥
 apart_words e = absurd cc
+
 apart_source : {o : Outcome} → ending.Outcome o ≡ ending.SourceRefused → ⊥
 apart_source e = absurd cc
+
 apart_disk : {o : Outcome} → ending.Outcome o ≡ ending.DiskUnavailable → ⊥
 apart_disk e = absurd cc
+
 apart_found : {o : Outcome} {w : List ℕ} → ending.Outcome o ≡ ending.NotFound w → ⊥
 apart_found e = absurd cc
 
@@ -159,7 +200,7 @@ module _ (words : List (List ℕ)) (files : Files) (file task : List ℕ) (asks 
   shows_files (inl h) = absurd (apart_found h.1)
   shows_files (inr (text, at, inl h)) = absurd (apart_source h.1)
   shows_files (inr (text, at, inr (m, s, k, inl h))) = absurd (apart_found h.1)
-  shows_files (inr (text, at, inr (m, s, k, inr (there, fits, y, gives, same)))) =
+  shows_files (inr (text, at, inr (m, s, k, inr (there, (fits, (y, gives, same)))))) =
       record { file = file; task = task; source = text; m = m; answer = y; asks = asks; stands = at; reads = s; names = k; gives = gives; shows = shown o y same }
 
 shows_told : (words : List (List ℕ)) (told : Option Files) (file task : List ℕ) → IsRun words file task → (o : Outcome) → IfSome told (λ files. OfFiles files file task (ending.Outcome o))
@@ -184,7 +225,7 @@ module _ (words : List (List ℕ)) (told : Option Files) (before behind : Option
       let fresh = shows_fresh words told o.0 (subst (Comes words told) o.1 comes) in
       let line_is : behind ≡ added before (outcome_line o.0) = behind_is ∙ ap (added before) (text_is ∙ ap line_of o.1) in
       subst (λ (t : Status). IfSome told (λ files. (x : List ℕ) × ShowsFresh words files t x × (behind ≡ added before x))) (sym (ended_is ∙ s_is ∙ ap status_of o.1))
-        (with_text words told (outcome_status o.0) (outcome_line o.0) (λ x. behind ≡ added before x) fresh line_is)
+      (with_text words told (outcome_status o.0) (outcome_line o.0) (λ x. behind ≡ added before x) fresh line_is)
 
   ten : ended ≡ status.OutputFailed → number_of ended ≤ 1 → ⊥
   ten is small = let h : 10 ≤ 1 = subst (λ t. number_of t ≤ 1) is small in omega (arith, h)
@@ -251,7 +292,8 @@ module _ (words : List (List ℕ)) (told : Option Files) (before behind : Option
   pub complete : Answered words told ended before behind → Completes words told disk_rose output_rose ended
   complete (s, text, answers, inr failed) files file task txt m is asks at r k there within fits no_disk no_output = absurd (no_output (output failed.0))
   complete (s, text, inr memory, inl w) files file task txt m is asks at r k there within fits no_disk no_output = inr (w.0 ∙ memory.0)
-  complete (s, text, inl (e, comes, s_is, text_is), inl w) = ends e comes (w.0 ∙ s_is)
+  complete (s, text, inl (e, comes, s_is, text_is), inl w) files file task txt m is asks at r k there within fits no_disk no_output =
+      ends e comes (w.0 ∙ s_is) files file task txt m is asks at r k there within fits no_disk no_output
 
 not_output : (e : Ending) → status_of e ≢ status.OutputFailed
 not_output (ending.Outcome (outcome.Value v)) d = absurd cc
@@ -265,3 +307,11 @@ not_output (ending.NotFound w) d = absurd cc
 -- no command comes to a failed output
 pub never_output : (words : List (List ℕ)) (told : Option Files) (e : Ending) (s : Status) → s ≡ status_of e → s ≢ status.OutputFailed
 never_output words told e s is d = not_output e (sym is ∙ d)
+
+-- a printed status is the answer's, unless the output failed
+pub same_disk : (s ended : Status) (text : List ℕ) (before behind : Option (List ℕ)) → Written s text ended before behind → ended ≡ status.DiskUnavailable → s ≡ status.DiskUnavailable
+same_disk s ended text before behind (inl w) is = sym w.0 ∙ is
+same_disk s ended text before behind (inr w) is = absurd (apart (sym w.0 ∙ is))
+  where
+    apart : status.OutputFailed ≡ status.DiskUnavailable → ⊥
+    apart e = absurd cc

@@ -1,5 +1,5 @@
 -- What a command comes to, in the order of its checks.
-use Rattle.std.specs.Prelude.{◌≡◌, ◌≢◌, ◌⊎◌, ◌<◌, ◌≤◌, ℕ, length, take, List, [], codes, false, None, Some, IfSome}
+use Rattle.std.specs.Prelude.{◌≡◌, ◌≢◌, ◌⊎◌, ◌<◌, ◌≤◌, ℕ, length, take, List, codes, false, None, Some, IfSome}
 use Rattle.std.specs.declared.option.Option.{Option}
 use Rattle.std.specs.FinMap.{get}
 use Rattle.rd_base.specs.declared.status.Status.{Status}
@@ -7,7 +7,7 @@ use Rattle.rd_base.specs.declared.status.Status.TheVariants as status
 use Rattle.rd_base.specs.Status.{number_of}
 use Rattle.rd_base.specs.Sink.{added}
 use Rattle.rd_value.specs.Limits.{is_within_expr}
-use Rattle.rd_value.specs.Model.{ModelFile, ModelValue, file_of}
+use Rattle.rd_value.specs.Model.{ModelValue, file_of}
 use Rattle.rd_value.specs.Erase.{erase}
 use Rattle.rd_value.specs.declared.value.FileValue.{FileValue}
 use Rattle.rd_value.specs.declared.value.Datum.{Datum}

@@ -1,5 +1,5 @@
 -- What a command prints, and the status that it ends with.
-use Rattle.std.specs.Prelude.{◌≡◌, ◌≤◌, ℕ, List, [], ◌++◌, codes, Some, IfSome, ⊤}
+use Rattle.std.specs.Prelude.{◌≡◌, ◌≤◌, ℕ, List, [], ◌++◌, codes, Some, IfSome}
 use Rattle.std.specs.declared.option.Option.{Option}
 use Rattle.std.specs.FinMap.{get}
 use Rattle.rd_base.specs.declared.status.Status.{Status}
@@ -23,7 +23,6 @@ use Rattle.rd_top.specs.Fresh.{Answer}
 use Rattle.rd_top.specs.Fits.{FreshGives}
 use Rattle.rd_top.specs.Shown.{line, value_line, failure_line}
 use Rattle.rd_top.specs.Running.{own}
-use Rattle.rd_top.specs.Evaluating.{answer_of}
 
 -- the call of a task without arguments
 abbrev pub root : {F : Type 0} → List ℕ → Lazy F
