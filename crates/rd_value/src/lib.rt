@@ -1,18 +1,24 @@
 //! Values and expressions.
 #![tactic(auto)]
 
+pub mod book;
 pub mod class;
+pub mod compare;
 mod depth;
 pub mod erasure;
 pub mod expr;
 mod expr_depth;
 mod expr_size;
 pub mod failure;
+pub mod lawful;
 pub mod limits;
+pub mod make;
 pub mod operators;
+pub mod raise;
 pub mod repr;
 pub mod signature;
 mod size;
 #[cfg(test)]
 mod tests;
+mod truth;
 pub mod value;
