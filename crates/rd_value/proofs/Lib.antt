@@ -1,3 +1,7 @@
+pub mod Deciding
+pub mod Telling
+pub mod SameExprs
+pub mod SameValues
 pub mod Walks
 pub mod Layers
 pub mod ExprLayers

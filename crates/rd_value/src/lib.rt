@@ -11,6 +11,7 @@ pub mod failure;
 pub mod limits;
 pub mod operators;
 pub mod repr;
+pub mod same;
 pub mod signature;
 mod size;
 #[cfg(test)]
