@@ -1,3 +1,4 @@
+pub mod Threads
 pub mod Deciding
 pub mod Telling
 pub mod SameExprs

@@ -2,6 +2,7 @@
 #![tactic(auto)]
 
 pub mod class;
+pub mod crossing;
 mod depth;
 pub mod erasure;
 pub mod expr;
