@@ -1,3 +1,8 @@
+pub mod Threads
+pub mod Deciding
+pub mod Telling
+pub mod SameExprs
+pub mod SameValues
 pub mod Walks
 pub mod Layers
 pub mod ExprLayers

@@ -4,6 +4,7 @@
 pub mod book;
 pub mod class;
 pub mod compare;
+pub mod crossing;
 mod depth;
 pub mod erasure;
 pub mod expr;
@@ -16,6 +17,7 @@ pub mod make;
 pub mod operators;
 pub mod raise;
 pub mod repr;
+pub mod same;
 pub mod signature;
 mod size;
 #[cfg(test)]
