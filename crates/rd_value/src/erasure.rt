@@ -7,11 +7,11 @@ ghost use Rattle.rd_value.specs.declared.value.ErrorValue.{ErrorValue};
 ghost use Rattle.rd_value.specs.declared.expr.OpKind.{OpKind};
 ghost use Rattle.rd_value.specs.Bind.{bind};
 ghost use Rattle.rd_value.specs.Canon.{canon, canon_expr};
-ghost use Rattle.rd_value.specs.Compare.{compared};
+ghost use Rattle.rd_value.specs.Compare.{compared, equal};
 ghost use Rattle.rd_value.specs.Depth.{depth, depth_expr};
 ghost use Rattle.rd_value.specs.Erase.{erase, erase_expr, carried, carried_all, carried_expr, with_files_default, with_files_keyword};
 ghost use Rattle.rd_value.specs.Expand.{expand_map, expand_catch};
-ghost use Rattle.rd_value.specs.Limits.{is_within, is_within_expr};
+ghost use Rattle.rd_value.specs.Limits.{is_within, is_within_expr, size};
 ghost use Rattle.rd_value.specs.Model.{ModelValue, ModelExpr, file_of};
 ghost use Rattle.rd_value.specs.Operators.{applied, plus};
 ghost use Rattle.rd_value.specs.Repr.{repr};
@@ -22,8 +22,10 @@ ghost use Rattle.rd_value.specs.Truth.{truth};
 pub fn erasure_agrees()
     ensures truth { (v : ModelValue) → truth (erase v) ≡ truth v }
     ensures compared { (v w : ModelValue) → compared (λ f. f) (erase v) (erase w) ≡ compared file_of v w }
+    ensures equal { (v w : ModelValue) → equal (λ f. f) (erase v) (erase w) ≡ equal file_of v w }
     ensures canon { (v : ModelValue) → canon (λ f. f) (erase v) ≡ canon file_of v }
     ensures canon_expr { (e : ModelExpr) → canon_expr (λ f. f) (erase_expr e) ≡ canon_expr file_of e }
+    ensures size { (v : ModelValue) → size (λ f. f) (erase v) ≡ size file_of v }
     ensures depth { (v : ModelValue) → depth (erase v) ≡ depth v }
     ensures depth_expr { (e : ModelExpr) → depth_expr (erase_expr e) ≡ depth_expr e }
     ensures within { (v : ModelValue) → is_within (λ f. f) (erase v) ≡ is_within file_of v }

@@ -3,7 +3,7 @@
 
 pub mod book;
 pub mod class;
-pub mod compare;
+mod compare;
 pub mod crossing;
 mod depth;
 pub mod erasure;
