@@ -1,0 +1,12 @@
+pub mod Laws
+pub mod More
+pub mod Many
+pub mod Tail
+pub mod Depth
+pub mod Rules
+pub mod Whole
+pub mod Loops
+pub mod Flat
+pub mod Halts
+pub mod Bound
+pub mod Pick
