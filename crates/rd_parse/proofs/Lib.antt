@@ -10,3 +10,8 @@ pub mod Flat
 pub mod Halts
 pub mod Bound
 pub mod Pick
+pub mod Sets
+pub mod Samples
+pub mod Steps
+pub mod Expressions
+pub mod Nested

@@ -1,7 +1,7 @@
 -- A choice by two tokens.
-use Rattle.std.proofs.Common.{◌≡◌, ℕ, ◌<◌, Bool, true, false, ◌&&◌, List, [], ◌∷◌, ◌++◌, length, Option, Ok, Err, refl, sym, ap, ◌∙◌, arith, inl, inr, ◌⊎◌, length-append}
+use Rattle.std.proofs.Common.{◌≡◌, ℕ, ◌<◌, ◌≤◌, Bool, true, false, ◌&&◌, List, [], ◌∷◌, ◌++◌, length, Option, Ok, Err, refl, sym, ap, ◌∙◌, arith, inl, inr, ◌⊎◌, length-append}
 use Rattle.rd_parse.specs.Form.{Form, either}
-use Rattle.rd_parse.specs.Reader.{Refused, Reader, sees, pair, read_pick}
+use Rattle.rd_parse.specs.Reader.{Refused, Reader, head, sees, pair, read_pick}
 use Rattle.rd_parse.proofs.Laws.{SameHead, Found, Stops, Lawful, head_append, same_sees, join, sees_left, sees_right, none_left, none_right}
 use Rattle.rd_parse.proofs.More.{begins, by_true, by_false, way}
 
@@ -16,6 +16,20 @@ pair_none a b (t ∷ ts) h = rw h refl
 empty_or : {T : Type 0} (used : List T) → (used ≡ []) ⊎ (0 < length used)
 empty_or [] = inl refl
 empty_or (t ∷ used) = inr (omega arith)
+
+-- A reader that doesn't refuse the first token of a list takes it, whatever comes behind it.
+pub eager_by : {T A : Type 0} (n : ℕ) (P : ℕ → Form T A) (f : ℕ → Reader T A) (fp mp : T → Bool) (np : Bool) → Lawful n P f fp mp np → (ts rest : List T) → f n ts ≡ Err (Refused rest)
+    → (k : List T) → SameHead ts k → (f n k ≡ Err (Refused k) → ⊥) → length rest < length ts
+eager_by {T} n P f fp mp np l ts rest e k same not_first = by_used s.used s.parts (λ k. s.steady n k) (empty_or s.used)
+  where
+    s : Stops n P f ts rest
+    s = l.refused ts rest e
+
+    by_used : (used : List T) → ts ≡ used ++ rest → ((k : List T) → n ≤ n → SameHead rest k → f n (used ++ k) ≡ Err (Refused k)) → (used ≡ []) ⊎ (0 < length used) → length rest < length ts
+    by_used used parts steady (inr some) = omega (arith, ap length parts, length-append used rest)
+    by_used used parts steady (inl none) =
+        let all : ts ≡ rest = parts ∙ ap (λ (u : List T). u ++ rest) none in
+        absurd (not_first (ap (λ (u : List T). f n (u ++ k)) (sym none) ∙ steady k (omega arith) (ap head (sym all) ∙ same)))
 
 -- What the texts of two forms begin with, where a test of the first two tokens tells them apart. No token of `behind` stands behind them.
 pub record Apart2 {T A : Type 0} (n : ℕ) (a : T → Bool) (b : Option T → Bool) (behind : T → Bool) (P Q : ℕ → Form T A) (f g : ℕ → Reader T A) : Type 0 where

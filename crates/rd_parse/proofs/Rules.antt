@@ -38,7 +38,7 @@ pub seq : {T A B : Type 0} {U : ℕ → Type 0} {n : ℕ} {P : ℕ → Form T A}
 seq {n = n} {P = P} {Q = Q} {f = f} {g = g} {fp = fp} {mp = mp} {fq = fq} {mq = mq} {np = np} {nq = nq} p q apart =
     record { law = λ x. both_lawful n P Q f g fp mp fq mq np nq (λ j. p.up j (x j)) (λ j. q.up j (x j)) apart (p.law x) (q.law x); up = λ j u a ts rest h. (h.0, p.up j u a.0 ts h.0 h.1, q.up j u a.1 h.0 rest h.2) }
 
-and_false : (b : Bool) → (b && false) ≡ false
+pub and_false : (b : Bool) → (b && false) ≡ false
 and_false true = refl
 and_false false = refl
 

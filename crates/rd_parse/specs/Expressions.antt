@@ -1,5 +1,5 @@
 -- The grammar of expressions: a relation of trees to the tokens that spell them. A number says how many levels may be open.
-use Rattle.std.specs.Prelude.{ℕ, zero, suc, List, [], ◌∷◌, ◌++◌, Option, Some, None, Bool, true, false, codes, ℤ}
+use Rattle.std.specs.Prelude.{ℕ, zero, suc, List, [], ◌∷◌, ◌++◌, Option, Some, None, Bool, true, false, codes}
 use Rattle.rd_syntax.specs.declared.token.Token.{Token}
 use Rattle.rd_value.specs.declared.value.FileValue.{FileValue}
 use Rattle.rd_value.specs.declared.value.Datum.{Datum}
@@ -64,6 +64,10 @@ constant_by _ = None
 -- `None` `True` `False`
 abbrev pub constant_of : Token → Option (Datum FileValue)
 constant_of t = constant_by (terminal t)
+
+-- `path`
+abbrev pub path_word : Token → Option (Unit {0})
+path_word = this_word (codes "path")
 
 -- the tokens that may begin an expression
 abbrev pub begins_expression : Terminal → Bool
@@ -165,14 +169,22 @@ module _ (n : ℕ) (in_ : Level) where
   abbrev pub keyword : Form Token Argument
   keyword = do name ← one name_of; u ← one (is w.Assign); e ← in_.expression; yields (Keyword name e)
 
-  -- an argument by position, where no keyword was begun, or by name
+  -- expression
+  abbrev pub positional : Form Token Argument
+  positional = do e ← in_.expression; yields (Positional e)
+
+  -- an argument by name, or by position where no keyword was begun
   abbrev pub argument : Bool → Form Token Argument
-  argument false = either keyword (do e ← in_.expression; yields (Positional e))
+  argument false = either keyword positional
   argument true = keyword
 
-  -- argument { `,` argument } [`,`], or nothing
+  -- { `,` argument } [`,`]
+  abbrev pub more_arguments : Bool → Form Token (List Argument)
+  more_arguments s = tail (is w.Comma) argument behind s
+
+  -- argument more_arguments, or nothing
   abbrev pub arguments : Form Token Arguments
-  arguments = either (do first ← argument false; more ← tail (is w.Comma) argument behind (behind false first); yields (sorted (first ∷ more))) (yields ([], []))
+  arguments = either (do first ← argument false; more ← more_arguments (behind false first); yields (sorted (first ∷ more))) (yields ([], []))
 
   -- `(` arguments `)`
   abbrev pub call : Name → Form Token Tree
@@ -244,7 +256,7 @@ module _ (n : ℕ) (in_ : Level) where
 
   -- `path`
   abbrev pub path : Tree → Form Token Tree
-  path receiver = do u ← opening (this_word (codes "path")) n; yields (node.Path receiver)
+  path receiver = do u ← opening path_word n; yields (node.Path receiver)
 
   -- `.` path, or `.` method
   abbrev pub dotted : Tree → Form Token Tree
@@ -262,9 +274,13 @@ module _ (n : ℕ) (in_ : Level) where
   abbrev pub postfix : Form Token Tree
   postfix = do first ← atom; parts first
 
-  -- `-` factor | postfix
+  -- `-` factor
+  abbrev pub negative : Form Token Tree
+  negative = do u ← opening (is w.Minus) n; e ← in_.factor; yields (node.Neg e)
+
+  -- negative | postfix
   abbrev pub factor : Form Token Tree
-  factor = either (do u ← opening (is w.Minus) n; e ← in_.factor; yields (node.Neg e)) postfix
+  factor = either negative postfix
 
   -- ( `*` | `//` | `%` ) factor
   abbrev pub times : Form Token (Operator × Tree)
@@ -286,28 +302,44 @@ module _ (n : ℕ) (in_ : Level) where
   abbrev pub not_in : Form Token Comparison
   not_in = do u ← one (is w.Not); v ← one (is w.In); yields NotIn
 
-  -- sum [ ( `==` | `!=` | `<` | `<=` | `>` | `>=` | `in` | `not` `in` ) sum ]
+  -- `==` | `!=` | `<` | `<=` | `>` | `>=` | `in` | not_in
+  abbrev pub comparing : Form Token Comparison
+  comparing = either (one comparison_of) not_in
+
+  -- sum [ comparing sum ]
   abbrev pub comparison : Form Token Tree
-  comparison = do left ← sum; either (do operator ← either (one comparison_of) not_in; right ← sum; yields (node.Compare operator left right)) (yields left)
+  comparison = do left ← sum; either (do operator ← comparing; right ← sum; yields (node.Compare operator left right)) (yields left)
 
-  -- `not` inversion | comparison
+  -- `not` inversion
+  abbrev pub negation : Form Token Tree
+  negation = do u ← opening (is w.Not) n; e ← in_.inversion; yields (node.Not e)
+
+  -- negation | comparison
   abbrev pub inversion : Form Token Tree
-  inversion = either (do u ← opening (is w.Not) n; e ← in_.inversion; yields (node.Not e)) comparison
+  inversion = either negation comparison
 
-  -- inversion { `and` inversion }
+  -- `and` inversion
+  abbrev pub and_operand : Form Token Tree
+  and_operand = do u ← one (is w.And); inversion
+
+  -- inversion { and_operand }
   abbrev pub conjunction : Form Token Tree
-  conjunction = do first ← inversion; more ← many (do u ← one (is w.And); inversion); yields (anded first more)
+  conjunction = do first ← inversion; more ← many and_operand; yields (anded first more)
 
-  -- conjunction { `or` conjunction }
+  -- `or` conjunction
+  abbrev pub or_operand : Form Token Tree
+  or_operand = do u ← one (is w.Or); conjunction
+
+  -- conjunction { or_operand }
   abbrev pub disjunction : Form Token Tree
-  disjunction = do first ← conjunction; more ← many (do u ← one (is w.Or); conjunction); yields (ored first more)
+  disjunction = do first ← conjunction; more ← many or_operand; yields (ored first more)
 
   -- disjunction [ `if` disjunction `else` expression ]
   abbrev pub conditional : Form Token Tree
   conditional = do first ← disjunction; either (do u ← one (is w.If); test ← disjunction; v ← opening (is w.Else) n; e ← in_.expression; yields (node.Cond test first e)) (yields first)
 
 -- the forms one level further in, where so many levels may be open
-pub level : ℕ → Level
+unfoldable pub level : ℕ → Level
 level zero = record { expression = never; disjunction = never; inversion = never; factor = never; parts = λ receiver. never }
 level (suc n) = record {
   expression = conditional n (level n);

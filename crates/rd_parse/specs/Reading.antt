@@ -1,5 +1,5 @@
 -- The readers of expressions, in the steps in which the functions of the parser take them.
-use Rattle.std.specs.Prelude.{ℕ, zero, suc, List, [], ◌∷◌, Option, Some, None, Bool, true, false, codes, not}
+use Rattle.std.specs.Prelude.{ℕ, zero, suc, List, [], ◌∷◌, Option, Bool, true, false, not}
 use Rattle.rd_syntax.specs.declared.token.Token.{Token}
 use Rattle.rd_value.specs.declared.value.Datum.TheVariants as value
 use Rattle.rd_parse.specs.declared.terminal.Terminal.TheVariants as w
@@ -9,8 +9,8 @@ use Rattle.rd_parse.specs.declared.tree.Comparison.{Comparison}
 use Rattle.rd_parse.specs.declared.tree.Comparison.TheVariants.{NotIn}
 use Rattle.rd_parse.specs.declared.tree.Node.TheVariants as node
 use Rattle.rd_parse.specs.Reader.{Reader, holds, hits, ◌>>=◌, pure, read_one, read_either, read_pick, read_many, read_opening, read_more, read_tail, too_deep}
-use Rattle.rd_parse.specs.Terminal.{is, among, word_of, name_of, text_of, number_of, this_word}
-use Rattle.rd_parse.specs.Expressions.{Tree, plus_of, times_of, comparison_of, constant_of, begins_expression, begins_argument, begins_part, begins_comparison, joined, chained, anded, ored, Argument, Positional, Keyword, behind, Arguments, sorted}
+use Rattle.rd_parse.specs.Terminal.{is, among, word_of, name_of, text_of, number_of}
+use Rattle.rd_parse.specs.Expressions.{Tree, path_word, plus_of, times_of, comparison_of, constant_of, begins_expression, begins_argument, begins_part, begins_comparison, joined, chained, anded, ored, Argument, Positional, Keyword, behind, Arguments, sorted}
 
 -- the readers of what stands one level further in
 pub record Readers : Type 0 where
@@ -45,7 +45,7 @@ module _ (n : ℕ) (in_ : Readers) where
   read_argument true = read_keyword
 
   abbrev pub read_more_arguments : Bool → Reader Token (List Argument)
-  read_more_arguments = read_tail (is w.Comma) (λ s. among (begins_argument s)) read_argument behind
+  read_more_arguments s = read_tail (is w.Comma) (λ s. among (begins_argument s)) read_argument behind s
 
   unfoldable pub read_arguments : Reader Token Arguments
   read_arguments = read_either (among begins_expression) (do first ← read_argument false; more ← read_more_arguments (behind false first); pure (sorted (first ∷ more))) (pure ([], []))
@@ -94,7 +94,7 @@ module _ (n : ℕ) (in_ : Readers) where
 
   unfoldable pub read_atom : Reader Token Tree
   read_atom =
-      read_either (hits name_of) read_named (read_either (hits number_of) read_number (read_either (hits text_of) read_texts (read_either (hits constant_of) read_constant (read_either (hits (is w.LeftParen)) read_group (read_either (hits (is w.LeftSquare)) read_square read_curly)))))
+      read_either (hits name_of) read_named (read_either (hits (is w.Int)) read_number (read_either (hits text_of) read_texts (read_either (hits constant_of) read_constant (read_either (hits (is w.LeftParen)) read_group (read_either (hits (is w.LeftSquare)) read_square read_curly)))))
 
   unfoldable pub read_index : Tree → Reader Token Tree
   read_index receiver = do u ← read_opening (is w.LeftSquare) n; e ← in_.expression; v ← read_one (is w.RightSquare); pure (node.Index receiver e)
@@ -103,10 +103,10 @@ module _ (n : ℕ) (in_ : Readers) where
   read_method receiver = do name ← read_one word_of; u ← read_opening (is w.LeftParen) n; all ← read_expressions; v ← read_one (is w.RightParen); pure (node.Method receiver name all)
 
   unfoldable pub read_path : Tree → Reader Token Tree
-  read_path receiver = do u ← read_opening (this_word (codes "path")) n; pure (node.Path receiver)
+  read_path receiver = do u ← read_opening path_word n; pure (node.Path receiver)
 
   unfoldable pub read_dotted : Tree → Reader Token Tree
-  read_dotted receiver = do u ← read_one (is w.Dot); read_pick (hits (this_word (codes "path"))) no_call (read_path receiver) (read_method receiver)
+  read_dotted receiver = do u ← read_one (is w.Dot); read_pick (hits path_word) no_call (read_path receiver) (read_method receiver)
 
   unfoldable pub read_part : Tree → Reader Token Tree
   read_part receiver = read_either (hits (is w.LeftSquare)) (read_index receiver) (read_dotted receiver)
@@ -167,7 +167,7 @@ module _ (n : ℕ) (in_ : Readers) where
       do first ← read_disjunction; read_either (hits (is w.If)) (do u ← read_one (is w.If); test ← read_disjunction; v ← read_opening (is w.Else) n; e ← in_.expression; pure (node.Cond test first e)) (pure first)
 
 -- the readers one level further in, where so many levels may be open
-pub inner : ℕ → Readers
+unfoldable pub inner : ℕ → Readers
 inner zero = record { expression = too_deep; disjunction = too_deep; inversion = too_deep; factor = too_deep; parts = λ receiver. too_deep }
 inner (suc n) = record {
   expression = read_conditional n (inner n);
