@@ -8,15 +8,15 @@ use Rattle.rd_top.specs.declared.parse.terminal.Terminal.TheVariants as w
 use Rattle.rd_top.specs.declared.tree.Operator.TheVariants.{Add}
 use Rattle.rd_top.specs.declared.tree.Node.{Node}
 use Rattle.rd_top.specs.declared.tree.Node.TheVariants as node
-use Rattle.rd_top.specs.Form.{Form, below}
-use Rattle.rd_top.specs.Reader.{Reader, hits, is_there, read_below}
+use Rattle.rd_parse.specs.Form.{Form, below}
+use Rattle.rd_parse.specs.Reader.{Reader, hits, is_there, read_below}
 use Rattle.rd_top.specs.Terminal.{terminal, among, same, flag, is, spelled, name_of, quoted, text_of}
 use Rattle.rd_top.specs.Grammar.{operator_by, operator_of, begins_expression, lit, named_by, chained, atom, link, chain, expression}
 use Rattle.rd_top.specs.Reading.{read_atom, read_link, read_chain, read_expression}
-use Rattle.rd_top.proofs.Laws.{Grows, Completes, Lawful}
-use Rattle.rd_top.proofs.Depth.{below_grows, below_zero, below_suc, Same, recast}
-use Rattle.rd_top.proofs.Rules.{Rule, Up, base, token, opens, then, seq, maps, choice, maybe, repeats, lists, relabel}
-use Rattle.rd_top.proofs.Loops.{Shrinks, shrinks_of}
+use Rattle.rd_parse.proofs.Laws.{Grows, Completes, Lawful}
+use Rattle.rd_parse.proofs.Depth.{below_grows, below_zero, below_suc, Same, recast}
+use Rattle.rd_parse.proofs.Rules.{Rule, Up, On, alone, token, opens, then, seq, maps, choice, maybe, repeats, lists, relabel}
+use Rattle.rd_parse.proofs.Loops.{Shrinks, shrinks_of}
 
 -- ---- a token of each kind
 
@@ -94,19 +94,19 @@ chain_extends _ = refl
 
 -- ---- the rules of one level
 
-module _ (n : ℕ) (X : ℕ → Form Token Node) (F : ℕ → Reader Token Node) (x : Rule X n X F (among begins_expression) (among extends_expression) false) where
-  atom_rule : Rule X n (λ m. atom m (X m)) (λ m. read_atom m (F m)) (among begins_expression) (among extends_atom) false
+module _ (n : ℕ) (X : ℕ → Form Token Node) (F : ℕ → Reader Token Node) (x : Rule (On X) n X F (among begins_expression) (among extends_expression) false) where
+  atom_rule : Rule (On X) n (λ m. atom m (X m)) (λ m. read_atom m (F m)) (among begins_expression) (among extends_atom) false
   atom_rule =
       let items = lists (is w.Comma) (sign_at (codes ",")) tt comma_there (λ t. comma_extends (terminal t)) x in
-      let arguments = maps (λ (x : Unit {0} × (List Node × Unit {0})). x.1.0) (then (opens X n (is w.LeftParen) (sign_at (codes "(")) tt left_there) (seq items (token X n (is w.RightParen) (sign_at (codes ")")) tt right_there) (λ t. right_listed (terminal t)))) in
-      let named = maps (λ (x : List ℕ × Option (List Node)). named_by x.0 x.1) (then (token X n name_of (sample kind.Name []) [] name_there) (maybe arguments)) in
-      let literal = maps lit (token X n text_of (sample kind.Text []) [] text_there) in
+      let arguments = maps (λ (x : Unit {0} × (List Node × Unit {0})). x.1.0) (then (opens (On X) n (is w.LeftParen) (sign_at (codes "(")) tt left_there) (seq items (token (On X) n (is w.RightParen) (sign_at (codes ")")) tt right_there) (λ t. right_listed (terminal t)))) in
+      let named = maps (λ (x : List ℕ × Option (List Node)). named_by x.0 x.1) (then (token (On X) n name_of (sample kind.Name []) [] name_there) (maybe arguments)) in
+      let literal = maps lit (token (On X) n text_of (sample kind.Text []) [] text_there) in
       relabel (λ t. atom_begins (terminal t) t.text) (λ t. atom_extends (terminal t)) (choice named literal (λ t. text_name (terminal t) t.text))
 
-  link_rule : Rule X n (λ m. link m (X m)) (λ m. read_link m (F m)) (hits operator_of) (among extends_atom) false
-  link_rule = then (token X n operator_of (sign_at (codes "+")) Add plus_there) atom_rule
+  link_rule : Rule (On X) n (λ m. link m (X m)) (λ m. read_link m (F m)) (hits operator_of) (among extends_atom) false
+  link_rule = then (token (On X) n operator_of (sign_at (codes "+")) Add plus_there) atom_rule
 
-  chain_rule : Rule X n (λ m. chain m (X m)) (λ m. read_chain m (F m)) (among begins_expression) (among extends_expression) false
+  chain_rule : Rule (On X) n (λ m. chain m (X m)) (λ m. read_chain m (F m)) (among begins_expression) (among extends_expression) false
   chain_rule =
       let links = repeats link_rule (λ t. operator_atom (terminal t)) in
       relabel (λ t. refl) (λ t. chain_extends (terminal t)) (maps (λ x. chained x.0 x.1) (seq atom_rule links (λ t. operator_atom (terminal t))))
@@ -134,13 +134,13 @@ same_forms = record { there = there; back = back; reads = reads_expression }
 -- a name alone
 pub expression_some : Completes expression []
 unfolding expression
-expression_some = record { depth = 0; by_ = sample kind.Name [] ∷ []; gives = λ k. (node.Name [], ((node.Name [], []), refl, (k, inl (([], None), refl, (k, (name_there, refl), refl)), refl))) }
+expression_some = record { depth = 0; by_ = sample kind.Name [] ∷ []; value = node.Name []; gives = λ k. ((node.Name [], []), refl, (k, inl (([], None), refl, (k, (name_there, refl), refl)), refl)) }
 
 abbrev Below : ℕ → Type 0
 Below n = Lawful n (below expression) (read_below read_expression) (among begins_expression) (among extends_expression) false
 
-zero_rule : Rule (below expression) 0 (λ m. chain m (below expression m)) (λ m. read_chain m (read_below read_expression m)) (among begins_expression) (among extends_expression) false
-zero_rule = chain_rule 0 (below expression) (read_below read_expression) (base 0 (below expression) (read_below read_expression) _ _ false (below_zero expression read_expression _ _ false expression_some))
+zero_rule : Rule (On (below expression)) 0 (λ m. chain m (below expression m)) (λ m. read_chain m (read_below read_expression m)) (among begins_expression) (among extends_expression) false
+zero_rule = chain_rule 0 (below expression) (read_below read_expression) (alone 0 (below expression) (read_below read_expression) _ _ false (below_zero expression read_expression _ _ false expression_some))
 
 below_up : (n : ℕ) → Up n expression → Up (suc n) (below expression)
 below_up n u = u
@@ -149,8 +149,8 @@ expression_up : (n : ℕ) → Up n expression
 expression_up zero a ts rest h = there 1 a ts rest (zero_rule.up 0 (λ a ts rest h. absurd h) a ts rest (back 0 a ts rest h))
 expression_up (suc n) a ts rest h = there (suc (suc n)) a ts rest (zero_rule.up (suc n) (below_up n (expression_up n)) a ts rest (back (suc n) a ts rest h))
 
-below_rule : (n : ℕ) → Below n → Rule (below expression) n (below expression) (read_below read_expression) (among begins_expression) (among extends_expression) false
-below_rule n l = base n (below expression) (read_below read_expression) _ _ false l
+below_rule : (n : ℕ) → Below n → Rule (On (below expression)) n (below expression) (read_below read_expression) (among begins_expression) (among extends_expression) false
+below_rule n l = alone n (below expression) (read_below read_expression) _ _ false l
 
 expression_at : (n : ℕ) → Below n → Lawful n expression read_expression (among begins_expression) (among extends_expression) false
 expression_at n l =

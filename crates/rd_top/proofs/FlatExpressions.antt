@@ -5,15 +5,15 @@ use Rattle.rd_top.specs.declared.parse.terminal.Terminal.TheVariants as w
 use Rattle.rd_top.specs.declared.tree.Node.{Node}
 use Rattle.rd_top.specs.declared.tree.Node.TheVariants as node
 use Rattle.rd_top.specs.declared.tree.Operator.{Operator}
-use Rattle.rd_top.specs.Reader.{Reader, Outcome, sees, hits, ◌>>=◌, pure, read_one, read_made, read_opt, read_many, read_below, read_listed}
+use Rattle.rd_parse.specs.Reader.{Reader, Outcome, sees, hits, ◌>>=◌, pure, read_one, read_made, read_opt, read_many, read_below, read_listed}
 use Rattle.rd_top.specs.Terminal.{is, among, name_of, text_of}
 use Rattle.rd_top.specs.Grammar.{operator_of, begins_expression, lit, named_by, chained}
 use Rattle.rd_top.specs.Reading.{read_arguments, read_atom, read_link, read_expression, more_arguments, listed_arguments, arguments_at, call_at, atom_at, link_at, links_at, chain_at}
-use Rattle.rd_top.proofs.Flat.{assoc, flat2, flat3, flat_opt, flat_listed, shut}
-use Rattle.rd_top.specs.declared.parse.halt.Halt.{Halt}
-use Rattle.rd_top.specs.Gives.{Fails}
-use Rattle.rd_top.proofs.Halts.{fails_then, fails_along}
-use Rattle.rd_top.proofs.Loops.{Shrinks}
+use Rattle.rd_parse.proofs.Flat.{assoc, flat2, flat3, flat_opt, flat_listed, shut}
+use Rattle.rd_parse.specs.declared.halt.Halt.{Halt}
+use Rattle.rd_parse.specs.Gives.{Fails}
+use Rattle.rd_parse.proofs.Halts.{fails_then, fails_along}
+use Rattle.rd_parse.proofs.Loops.{Shrinks}
 use Rattle.rd_top.proofs.Expressions.{reads_expression, link_shrinks}
 
 abbrev inner : ℕ → Reader Token Node

@@ -3,12 +3,12 @@ use Rattle.std.proofs.Common.{◌≡◌, ℕ, zero, suc, cond, List, [], ◌∷�
 use Rattle.rd_syntax.specs.declared.token.Token.{Token}
 use Rattle.rd_top.specs.declared.parse.terminal.Terminal.TheVariants as w
 use Rattle.rd_top.specs.declared.tree.Statement.TheVariants as statement
-use Rattle.rd_top.specs.Reader.{Outcome, sees, hits, ◌>>=◌, pure, read_one, read_both, read_many}
+use Rattle.rd_parse.specs.Reader.{Outcome, sees, hits, ◌>>=◌, pure, read_one, read_both, read_many}
 use Rattle.rd_top.specs.Terminal.{is, name_of, task_of}
 use Rattle.rd_top.specs.Grammar.{function_of, module_of}
 use Rattle.rd_top.specs.Reading.{read_expression, read_simple, read_line, read_block, read_no_options, read_decorator, read_parameters, read_head, read_function, read_module, more_parameters, simple_at, line_at, block_at, no_options_at, decorator_at, parameters_at, head_at, function_at, functions_at, module_at}
-use Rattle.rd_top.proofs.Flat.{assoc, flat2, flat3, flat4, flat5, flat_opt, flat_listed, shut}
-use Rattle.rd_top.proofs.Loops.{Shrinks}
+use Rattle.rd_parse.proofs.Flat.{assoc, flat2, flat3, flat4, flat5, flat_opt, flat_listed, shut}
+use Rattle.rd_parse.proofs.Loops.{Shrinks}
 use Rattle.rd_top.proofs.Tasks.{function_shrinks}
 
 simple_is : (n : ℕ) → simple_at n ≡ read_simple n

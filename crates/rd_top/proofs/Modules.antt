@@ -2,11 +2,11 @@
 use Rattle.std.proofs.Common.{◌≡◌, ℕ, false, List, [], Ok, Err, sym, subst, ◌∙◌, ◌≢◌}
 use Rattle.rd_syntax.specs.declared.token.Token.{Token}
 use Rattle.rd_top.specs.declared.tree.Module.{Module}
-use Rattle.rd_top.specs.Reader.{Stop}
+use Rattle.rd_parse.specs.Reader.{Stop}
 use Rattle.rd_top.specs.Grammar.{module_form, IsModule}
 use Rattle.rd_top.specs.Reading.{read_module, module_at}
-use Rattle.rd_top.proofs.Whole.{text_found, text_only, one_value}
-use Rattle.rd_top.proofs.Laws.{got_value, got_rest}
+use Rattle.rd_parse.proofs.Whole.{text_found, text_only, one_value}
+use Rattle.rd_parse.proofs.Laws.{got_value, got_rest}
 use Rattle.rd_top.proofs.Tasks.{module_lawful, module_grows}
 use Rattle.rd_top.proofs.FlatTasks.{flat_module}
 

@@ -5,15 +5,15 @@ use Rattle.rd_syntax.specs.declared.token.Token.{Token}
 use Rattle.rd_top.specs.declared.parse.terminal.Terminal.{Terminal}
 use Rattle.rd_top.specs.declared.parse.terminal.Terminal.TheVariants as w
 use Rattle.rd_top.specs.declared.tree.Statement.TheVariants as statement
-use Rattle.rd_top.specs.Form.{below}
-use Rattle.rd_top.specs.Reader.{hits, is_there, read_below}
+use Rattle.rd_parse.specs.Form.{below}
+use Rattle.rd_parse.specs.Reader.{hits, is_there, read_below}
 use Rattle.rd_top.specs.Terminal.{terminal, among, is, spelled, name_of, task_of}
 use Rattle.rd_top.specs.Grammar.{begins_expression, expression, simple, line, block, decorator, head, function_of, function, module_of, module_form}
 use Rattle.rd_top.specs.Reading.{read_expression, read_simple, read_line, read_block, read_decorator, read_head, read_function, read_module}
-use Rattle.rd_top.proofs.Laws.{Grows, Lawful, join}
-use Rattle.rd_top.proofs.Depth.{below_grows, below_zero, below_suc}
-use Rattle.rd_top.proofs.Rules.{Rule, base, token, opens, then, seq, maps, maybe, repeats, lists}
-use Rattle.rd_top.proofs.Loops.{Shrinks, shrinks_of}
+use Rattle.rd_parse.proofs.Laws.{Grows, Lawful, join}
+use Rattle.rd_parse.proofs.Depth.{below_grows, below_zero, below_suc}
+use Rattle.rd_parse.proofs.Rules.{Rule, On, alone, token, opens, then, seq, maps, maybe, repeats, lists}
+use Rattle.rd_parse.proofs.Loops.{Shrinks, shrinks_of}
 use Rattle.rd_top.proofs.Expressions.{sample, sign_at, comma_there, left_there, right_there, name_there, hit, extends_expression, expression_lawful, expression_grows}
 
 -- ---- a token of each kind
@@ -77,13 +77,13 @@ end_at _ = refl
 
 -- ---- statements
 
-simple_rule : (n : ℕ) → Rule expression n simple read_simple (hits (is w.Return)) (among extends_expression) false
+simple_rule : (n : ℕ) → Rule (On expression) n simple read_simple (hits (is w.Return)) (among extends_expression) false
 simple_rule n =
-    let value = base n expression read_expression (among begins_expression) (among extends_expression) false (expression_lawful n) in
-    maps (λ x. statement.Return x.1) (then (token expression n (is w.Return) (sample kind.Reserved (codes "return")) tt return_there) value)
+    let value = alone n expression read_expression (among begins_expression) (among extends_expression) false (expression_lawful n) in
+    maps (λ x. statement.Return x.1) (then (token (On expression) n (is w.Return) (sample kind.Reserved (codes "return")) tt return_there) value)
 
-line_rule : (n : ℕ) → Rule expression n line read_line (hits (is w.Return)) nothing false
-line_rule n = maps (λ x. x.0) (seq (simple_rule n) (token expression n (is w.Newline) (sample kind.Newline []) tt newline_there) (λ t. newline_expression (terminal t)))
+line_rule : (n : ℕ) → Rule (On expression) n line read_line (hits (is w.Return)) nothing false
+line_rule n = maps (λ x. x.0) (seq (simple_rule n) (token (On expression) n (is w.Newline) (sample kind.Newline []) tt newline_there) (λ t. newline_expression (terminal t)))
 
 line_lawful : (n : ℕ) → Lawful n line read_line (hits (is w.Return)) nothing false
 line_lawful n = (line_rule n).law expression_grows
@@ -95,35 +95,35 @@ below_lawful : (n : ℕ) → Lawful n (below line) (read_below read_line) (hits 
 below_lawful zero = below_zero line read_line _ _ false (line_lawful 0).some
 below_lawful (suc n) = below_suc n line read_line _ _ false (line_lawful n)
 
-block_rule : (n : ℕ) → Rule (below line) n block read_block (hits (is w.Colon)) nothing false
-block_rule n = maps (λ x. x.1 ∷ []) (then (opens (below line) n (is w.Colon) (sign_at (codes ":")) tt colon_there) (base n (below line) (read_below read_line) (hits (is w.Return)) nothing false (below_lawful n)))
+block_rule : (n : ℕ) → Rule (On (below line)) n block read_block (hits (is w.Colon)) nothing false
+block_rule n = maps (λ x. x.1 ∷ []) (then (opens (On (below line)) n (is w.Colon) (sign_at (codes ":")) tt colon_there) (alone n (below line) (read_below read_line) (hits (is w.Return)) nothing false (below_lawful n)))
 
 -- ---- functions and modules
 
-decorator_rule : (n : ℕ) → Rule (below line) n (λ _. decorator) (λ _. read_decorator) (hits (is w.At)) nothing false
+decorator_rule : (n : ℕ) → Rule (On (below line)) n (λ _. decorator) (λ _. read_decorator) (hits (is w.At)) nothing false
 decorator_rule n =
-    let left = token (below line) n (is w.LeftParen) (sign_at (codes "(")) tt left_there in
-    let right = token (below line) n (is w.RightParen) (sign_at (codes ")")) tt right_there in
+    let left = token (On (below line)) n (is w.LeftParen) (sign_at (codes "(")) tt left_there in
+    let right = token (On (below line)) n (is w.RightParen) (sign_at (codes ")")) tt right_there in
     let options = maps (λ (x : Option (Unit {0} × Unit {0})). tt {0}) (maybe (then left right)) in
-    let behind = seq options (token (below line) n (is w.Newline) (sample kind.Newline []) tt newline_there) (λ t. newline_options (terminal t)) in
-    maps (λ (x : Unit {0} × (Unit {0} × (Unit {0} × Unit {0}))). tt {0}) (then (token (below line) n (is w.At) (sign_at (codes "@")) tt at_there) (then (token (below line) n task_of (sample kind.Name (codes "task")) tt task_there) behind))
+    let behind = seq options (token (On (below line)) n (is w.Newline) (sample kind.Newline []) tt newline_there) (λ t. newline_options (terminal t)) in
+    maps (λ (x : Unit {0} × (Unit {0} × (Unit {0} × Unit {0}))). tt {0}) (then (token (On (below line)) n (is w.At) (sign_at (codes "@")) tt at_there) (then (token (On (below line)) n task_of (sample kind.Name (codes "task")) tt task_there) behind))
 
-head_rule : (n : ℕ) → Rule (below line) n (λ _. head) (λ _. read_head) (hits (is w.Def)) nothing false
+head_rule : (n : ℕ) → Rule (On (below line)) n (λ _. head) (λ _. read_head) (hits (is w.Def)) nothing false
 head_rule n =
-    let name = token (below line) n name_of (sample kind.Name []) [] name_there in
-    let left = token (below line) n (is w.LeftParen) (sign_at (codes "(")) tt left_there in
-    let right = token (below line) n (is w.RightParen) (sign_at (codes ")")) tt right_there in
+    let name = token (On (below line)) n name_of (sample kind.Name []) [] name_there in
+    let left = token (On (below line)) n (is w.LeftParen) (sign_at (codes "(")) tt left_there in
+    let right = token (On (below line)) n (is w.RightParen) (sign_at (codes ")")) tt right_there in
     let parameters = lists (is w.Comma) (sign_at (codes ",")) tt comma_there (λ t. comma_nothing (terminal t)) name in
     let inside = seq parameters right (λ t. right_parameters (terminal t) t.text) in
-    maps (λ x. (x.1.0, x.1.1.1.0)) (then (token (below line) n (is w.Def) (sample kind.Reserved (codes "def")) tt def_there) (then name (then left inside)))
+    maps (λ x. (x.1.0, x.1.1.1.0)) (then (token (On (below line)) n (is w.Def) (sample kind.Reserved (codes "def")) tt def_there) (then name (then left inside)))
 
-function_rule : (n : ℕ) → Rule (below line) n function read_function (hits (is w.At)) nothing false
+function_rule : (n : ℕ) → Rule (On (below line)) n function read_function (hits (is w.At)) nothing false
 function_rule n = maps (λ x. function_of x.1.0 x.1.1) (then (decorator_rule n) (then (head_rule n) (block_rule n)))
 
-module_rule : (n : ℕ) → Rule (below line) n module_form read_module (join true (hits (is w.At)) (hits (is w.End))) nothing false
+module_rule : (n : ℕ) → Rule (On (below line)) n module_form read_module (join true (hits (is w.At)) (hits (is w.End))) nothing false
 module_rule n =
     let functions = repeats (function_rule n) (λ t. at_nothing (terminal t)) in
-    maps (λ x. module_of x.0) (seq functions (token (below line) n (is w.End) (sample kind.End []) tt end_there) (λ t. end_at (terminal t)))
+    maps (λ x. module_of x.0) (seq functions (token (On (below line)) n (is w.End) (sample kind.End []) tt end_there) (λ t. end_at (terminal t)))
 
 pub module_lawful : (n : ℕ) → Lawful n module_form read_module (join true (hits (is w.At)) (hits (is w.End))) nothing false
 module_lawful n = (module_rule n).law (below_grows line line_grows)

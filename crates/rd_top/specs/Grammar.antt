@@ -12,7 +12,7 @@ use Rattle.rd_top.specs.declared.tree.Statement.{Statement}
 use Rattle.rd_top.specs.declared.tree.Statement.TheVariants as statement
 use Rattle.rd_top.specs.declared.tree.Function.{Function}
 use Rattle.rd_top.specs.declared.tree.Module.{Module}
-use Rattle.rd_top.specs.Form.{Form, one, both, made, either, many, opt, never, opening, below, listed, IsText}
+use Rattle.rd_parse.specs.Form.{Form, one, both, made, either, many, opt, never, opening, below, listed, IsText}
 use Rattle.rd_top.specs.Terminal.{terminal, is, name_of, text_of, task_of}
 
 -- ---- expressions

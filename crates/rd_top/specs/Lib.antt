@@ -7,13 +7,10 @@ pub mod Errors
 pub mod Evaluating
 pub mod Files
 pub mod Fits
-pub mod Form
 pub mod Fresh
-pub mod Gives
 pub mod Grammar
 pub mod Names
 pub mod Printed
-pub mod Reader
 pub mod Reading
 pub mod Running
 pub mod Shown

@@ -9,7 +9,7 @@ use Rattle.rd_top.specs.declared.tree.Statement.{Statement}
 use Rattle.rd_top.specs.declared.tree.Statement.TheVariants as statement
 use Rattle.rd_top.specs.declared.tree.Function.{Function}
 use Rattle.rd_top.specs.declared.tree.Module.{Module}
-use Rattle.rd_top.specs.Reader.{Reader, sees, hits, ◌>>=◌, pure, read_one, read_both, read_made, read_either, read_opt, read_many, read_opening, read_open, read_below, read_more, read_listed, too_deep}
+use Rattle.rd_parse.specs.Reader.{Reader, sees, hits, ◌>>=◌, pure, read_one, read_both, read_made, read_either, read_opt, read_many, read_opening, read_open, read_below, read_more, read_listed, too_deep}
 use Rattle.rd_top.specs.Terminal.{is, among, name_of, text_of, task_of}
 use Rattle.rd_top.specs.Grammar.{operator_of, begins_expression, lit, named_by, chained, Head, function_of, module_of}
 

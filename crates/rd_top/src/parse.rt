@@ -6,13 +6,12 @@ ghost use Rattle.rd_top.specs.Grammar.{IsModule};
 ghost use Rattle.rd_top.specs.declared.tree.Module.{Module};
 
 mod expression;
-mod halt;
 mod take;
 mod task;
 mod terminal;
 
 use crate::tree::Module;
-use halt::Halt;
+use rd_parse::Halt;
 use rd_syntax::{SourceError, Tokens};
 use std::alloc::Global;
 

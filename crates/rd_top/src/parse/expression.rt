@@ -1,17 +1,17 @@
 //! Expressions.
 
 ghost use Rattle.std.specs.Prelude.{◌≡◌};
-ghost use Rattle.rd_top.specs.Reader.{read_one, hits, sees, onto};
+ghost use Rattle.rd_parse.specs.Reader.{read_one, hits, sees, onto};
 ghost use Rattle.rd_top.specs.Terminal.{among};
 ghost use Rattle.rd_top.specs.Grammar.{operator_of, begins_expression};
-ghost use Rattle.rd_top.specs.Gives.{Gives};
+ghost use Rattle.rd_parse.specs.Gives.{Gives};
 ghost use Rattle.rd_top.specs.Reading.{read_expression, more_arguments, listed_arguments, arguments_at, call_at, atom_at, link_at, links_at};
 
-use crate::parse::halt::Halt;
 use crate::parse::take::{after, begins_name, begins_with, expect, name, open, text};
 use crate::parse::terminal::{Terminal, terminal_of};
 use crate::tree::{Literal, Node, Operator};
 use rd_base::{Boxed, Items, Text};
+use rd_parse::Halt;
 use rd_syntax::Token;
 use std::alloc::Global;
 

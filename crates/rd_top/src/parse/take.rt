@@ -2,13 +2,13 @@
 
 ghost use Rattle.std.specs.Prelude.{◌≡◌, ◌<◌, IfOk};
 ghost use Rattle.std.specs.Option.{option_map as map_option};
-ghost use Rattle.rd_top.specs.Reader.{read_one, read_open, hits, sees};
+ghost use Rattle.rd_parse.specs.Reader.{read_one, read_open, hits, sees};
 ghost use Rattle.rd_top.specs.Terminal.{is, name_of, text_of, task_of};
-ghost use Rattle.rd_top.specs.Gives.{Gives, Takes};
+ghost use Rattle.rd_parse.specs.Gives.{Gives, Takes};
 
-use crate::parse::halt::Halt;
 use crate::parse::terminal::{Terminal, terminal_of};
 use rd_base::{Copies, Text};
+use rd_parse::Halt;
 use rd_syntax::Token;
 use std::alloc::Global;
 

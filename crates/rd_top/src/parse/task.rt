@@ -1,16 +1,16 @@
 //! Tasks and modules.
 
 ghost use Rattle.std.specs.Prelude.{◌≡◌};
-ghost use Rattle.rd_top.specs.Reader.{onto};
-ghost use Rattle.rd_top.specs.Gives.{Gives};
+ghost use Rattle.rd_parse.specs.Reader.{onto};
+ghost use Rattle.rd_parse.specs.Gives.{Gives};
 ghost use Rattle.rd_top.specs.Reading.{simple_at, line_at, block_at, no_options_at, decorator_at, more_parameters, parameters_at, head_at, function_at, functions_at, module_at};
 
 use crate::parse::expression::expression;
-use crate::parse::halt::Halt;
 use crate::parse::take::{after, begins_name, begins_with, expect, name, open, task_word};
 use crate::parse::terminal::Terminal;
 use crate::tree::{Block, Function, Module, Statement};
 use rd_base::{Items, Text};
+use rd_parse::Halt;
 use rd_syntax::Token;
 use std::alloc::Global;
 

@@ -1,7 +1,7 @@
 use Rattle.std.proofs.Common.{◌≡◌, length, refl, sym, ◌∙◌, Ok, Err}
-use Rattle.rd_top.specs.Reader.{Refused, Deep}
+use Rattle.rd_parse.specs.Reader.{Refused, Deep}
 use Rattle.rd_top.specs.Reading.{module_at}
-use Rattle.rd_top.proofs.Whole.{none_left, some_left}
+use Rattle.rd_parse.proofs.Whole.{none_left, some_left}
 use Rattle.rd_top.proofs.Modules.{module_found, module_is, module_longer, module_not_read}
 use Rattle.rd_top.proofs.parse.parse.Goals as goal
 

@@ -2,13 +2,13 @@ use Rattle.std.proofs.Common.{rules, ◌≡◌, true, refl, sym, ◌∙◌}
 use Rattle.std.proofs.lemmas.Result.{err_from_is_err_and}
 use Rattle.rd_top.specs.declared.parse.terminal.Terminal.TheVariants as w
 use Rattle.rd_top.specs.declared.tree.Node.{Node}
-use Rattle.rd_top.specs.Reader.{hits, sees}
+use Rattle.rd_parse.specs.Reader.{hits, sees}
 use Rattle.rd_top.specs.Terminal.{is, among}
 use Rattle.rd_top.specs.Grammar.{operator_of, begins_expression}
 use Rattle.rd_top.specs.Reading.{read_expression, link_at, links_at}
-use Rattle.rd_top.proofs.Loops.{plain_goes_on, plain_done, signed_goes_on, signed_shorter}
-use Rattle.rd_top.proofs.Halts.{plain_fails}
-use Rattle.rd_top.proofs.Whole.{none_left, some_left}
+use Rattle.rd_parse.proofs.Loops.{plain_goes_on, plain_done, signed_goes_on, signed_shorter}
+use Rattle.rd_parse.proofs.Halts.{plain_fails}
+use Rattle.rd_parse.proofs.Whole.{none_left, some_left}
 use Rattle.rd_top.proofs.Expressions.{expression_shrinks}
 use Rattle.rd_top.proofs.FlatExpressions.{link_short, chain_first, chain_links, chain_is, chained_some}
 use Rattle.rd_top.proofs.parse.expression.+expression.Goals as goal

@@ -1,5 +1,5 @@
 use Rattle.std.proofs.Common.{◌≡◌, ◌+◌, ◌*◌, length}
-use Rattle.rd_top.specs.Reader.{onto}
+use Rattle.rd_parse.specs.Reader.{onto}
 use Rattle.rd_top.specs.Reading.{more_arguments, links_at}
 use Rattle.rd_top.proofs.parse.expression.+expression.Given as goal
 

@@ -1,11 +1,11 @@
 use Rattle.std.proofs.Common.{sym, ◌∙◌}
 use Rattle.std.proofs.lemmas.Result.{err_from_is_err_and}
 use Rattle.rd_top.specs.declared.parse.terminal.Terminal.TheVariants as w
-use Rattle.rd_top.specs.Reader.{hits}
+use Rattle.rd_parse.specs.Reader.{hits}
 use Rattle.rd_top.specs.Terminal.{is}
 use Rattle.rd_top.specs.Reading.{function_at, functions_at}
-use Rattle.rd_top.proofs.Loops.{plain_goes_on, plain_done}
-use Rattle.rd_top.proofs.Halts.{plain_fails}
+use Rattle.rd_parse.proofs.Loops.{plain_goes_on, plain_done}
+use Rattle.rd_parse.proofs.Halts.{plain_fails}
 use Rattle.rd_top.proofs.FlatTasks.{function_short}
 use Rattle.rd_top.proofs.parse.task.functions.Goals as goal
 

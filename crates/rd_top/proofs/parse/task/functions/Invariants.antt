@@ -1,5 +1,5 @@
 use Rattle.std.proofs.Common.{◌≡◌, length}
-use Rattle.rd_top.specs.Reader.{onto}
+use Rattle.rd_parse.specs.Reader.{onto}
 use Rattle.rd_top.specs.Reading.{functions_at}
 use Rattle.rd_top.proofs.parse.task.functions.Given as goal
 

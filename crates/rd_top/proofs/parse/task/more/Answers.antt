@@ -1,8 +1,8 @@
 use Rattle.std.proofs.Common.{rules, ◌≡◌, true, ℕ, List, sym, ◌∙◌}
 use Rattle.rd_top.specs.declared.parse.terminal.Terminal.TheVariants as w
-use Rattle.rd_top.specs.Reader.{hits, sees, read_one}
+use Rattle.rd_parse.specs.Reader.{hits, sees, read_one}
 use Rattle.rd_top.specs.Terminal.{is, name_of}
-use Rattle.rd_top.proofs.Loops.{signed_goes_on, taken_short}
+use Rattle.rd_parse.proofs.Loops.{signed_goes_on, taken_short}
 use Rattle.rd_top.proofs.parse.task.more.Goals as goal
 
 pub loop-behind-preserved : goal.loop-behind-preserved

@@ -1,9 +1,9 @@
 -- Repetitions.
 use Rattle.std.proofs.Common.{◌≡◌, ℕ, zero, suc, ◌+◌, ◌≤◌, ◌<◌, Bool, true, false, List, [], ◌∷◌, ◌++◌, length, Ok, Err, refl, sym, ap, subst, ◌∙◌, append_assoc, arith, inl, inr, ◌⊎◌, length-append}
-use Rattle.rd_top.specs.Form.{Form, many}
-use Rattle.rd_top.specs.Reader.{Refused, Outcome, Reader, head, holds, sees, and_then, ◌>>=◌, pure, read_many_by, read_many}
-use Rattle.rd_top.proofs.Laws.{SameHead, Grows, Completes, Found, Stops, Lawful, got, got_value, got_rest, stopped, bind_ok, bind_err, head_append, same_sees, raise, join, Apart, none_left, none_right, apart_sees}
-use Rattle.rd_top.proofs.More.{begins, by_true, by_false, way}
+use Rattle.rd_parse.specs.Form.{Form, many}
+use Rattle.rd_parse.specs.Reader.{Refused, Outcome, Reader, head, holds, sees, and_then, ◌>>=◌, pure, read_many_by, read_many}
+use Rattle.rd_parse.proofs.Laws.{SameHead, Grows, Completes, Found, Stops, Lawful, got, got_value, got_rest, stopped, bind_ok, bind_err, head_append, same_sees, raise, join, Apart, none_left, none_right, apart_sees}
+use Rattle.rd_parse.proofs.More.{begins, by_true, by_false, way}
 
 -- the same, for every number of turns that is enough
 pub record FoundBy {T A : Type 0} (n : ℕ) (P : ℕ → Form T A) (s : T → Bool) (f : ℕ → Reader T A) (all : List A) (ts rest : List T) : Type 0 where
@@ -119,7 +119,7 @@ module _ {T A : Type 0} (n : ℕ) (P : ℕ → Form T A) (f : ℕ → Reader T A
       first t s = record {
         used = s.used;
         parts = s.parts;
-        completes = record { depth = s.completes.depth; by_ = s.completes.by_; gives = λ k. let a = s.completes.gives k in (a.0 ∷ [], (k, a.1, refl)) };
+        completes = record { depth = s.completes.depth; by_ = s.completes.by_; value = s.completes.value ∷ []; gives = λ k. (k, s.completes.gives k, refl) };
         steady = λ m turns k le e lt.
             from_suc (λ turns. read_many_by fp (f m) turns (s.used ++ k) ≡ Err (Refused k)) (length s.used)
             (λ turns _. last_turn m turns s.used k (sym (ap (holds fp) (ap head s.parts ∙ head_append s.used rest k e)) ∙ t) (s.steady m k le e))
@@ -133,9 +133,9 @@ module _ {T A : Type 0} (n : ℕ) (P : ℕ → Form T A) (f : ℕ → Reader T A
         completes = record {
           depth = n + s.completes.depth;
           by_ = s.completes.by_;
+          value = a ∷ s.completes.value;
           gives = λ k.
-              let b = s.completes.gives k in
-              (a ∷ b.0, (s.used ++ (s.completes.by_ ++ k), rw append_assoc (raise P grows n _ a _ _ (omega arith) (p.anywhere (s.used ++ (s.completes.by_ ++ k)))), raise (λ m. many (P m)) (many_grows P grows) s.completes.depth _ b.0 _ _ (omega arith) b.1));
+              (s.used ++ (s.completes.by_ ++ k), rw append_assoc (raise P grows n _ a _ _ (omega arith) (p.anywhere (s.used ++ (s.completes.by_ ++ k)))), raise (λ m. many (P m)) (many_grows P grows) s.completes.depth _ s.completes.value _ _ (omega arith) (s.completes.gives k));
         };
         steady = λ m turns k le e lt.
             let long : 0 < length p.used = some_used a p.used (p.anywhere []) in
@@ -161,5 +161,5 @@ module _ {T A : Type 0} (n : ℕ) (P : ℕ → Form T A) (f : ℕ → Reader T A
     only = λ all ts rest h m. many_only_by (suc (length ts)) all ts rest (omega (arith, many_shrinks all ts rest h)) h m;
     found = many_found;
     refused = many_refused;
-    some = record { depth = 0; by_ = []; gives = λ k. ([], refl) };
+    some = record { depth = 0; by_ = []; value = []; gives = λ k. refl };
   }

@@ -14,7 +14,7 @@ pub enum Halt<'a> {
 
 impl<'a> From<AllocError> for Halt<'a> {
     ghost use Rattle.std.specs.Prelude.{◌≡◌};
-    ghost use Rattle.rd_top.specs.declared.parse.halt.Halt.TheVariants.{Memory};
+    ghost use Rattle.rd_parse.specs.declared.halt.Halt.TheVariants.{Memory};
 
     ghost from_gives = { λ _ e. e ≡ Memory };
 
@@ -25,7 +25,7 @@ impl<'a> From<AllocError> for Halt<'a> {
 
 impl<'a, T: Drop> From<AllocFailed<T>> for Halt<'a> {
     ghost use Rattle.std.specs.Prelude.{◌≡◌};
-    ghost use Rattle.rd_top.specs.declared.parse.halt.Halt.TheVariants.{Memory};
+    ghost use Rattle.rd_parse.specs.declared.halt.Halt.TheVariants.{Memory};
 
     ghost from_gives = { λ _ e. e ≡ Memory };
 
@@ -37,7 +37,7 @@ impl<'a, T: Drop> From<AllocFailed<T>> for Halt<'a> {
 
 impl<'a> From<OutOfMemory> for Halt<'a> {
     ghost use Rattle.std.specs.Prelude.{◌≡◌};
-    ghost use Rattle.rd_top.specs.declared.parse.halt.Halt.TheVariants.{Memory};
+    ghost use Rattle.rd_parse.specs.declared.halt.Halt.TheVariants.{Memory};
 
     ghost from_gives = { λ _ e. e ≡ Memory };
 

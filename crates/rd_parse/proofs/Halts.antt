@@ -1,11 +1,11 @@
 -- What each function of the parser adds to what its callees gave.
 use Rattle.std.proofs.Common.{◌≡◌, Bool, true, List, sym, ap, subst, ◌∙◌}
 use Rattle.rd_syntax.specs.declared.token.Token.{Token}
-use Rattle.rd_top.specs.declared.parse.halt.Halt.{Halt}
-use Rattle.rd_top.specs.declared.parse.halt.Halt.TheVariants as halt
-use Rattle.rd_top.specs.Reader.{Refused, Deep, Outcome, Reader, sees, and_then, read_many, onto}
-use Rattle.rd_top.specs.Gives.{Fails}
-use Rattle.rd_top.proofs.Loops.{Shrinks, plain_stops}
+use Rattle.rd_parse.specs.declared.halt.Halt.{Halt}
+use Rattle.rd_parse.specs.declared.halt.Halt.TheVariants as halt
+use Rattle.rd_parse.specs.Reader.{Refused, Deep, Outcome, Reader, sees, and_then, read_many, onto}
+use Rattle.rd_parse.specs.Gives.{Fails}
+use Rattle.rd_parse.proofs.Loops.{Shrinks, plain_stops}
 
 pub fails_then : {A B : Type 0} (h : Halt) (r : Outcome Token A) (f : A → Reader Token B) → Fails h r → Fails h (and_then r f)
 fails_then halt.Memory r f e = tt

@@ -3,9 +3,9 @@ use Rattle.std.proofs.Common.{◌≡◌, ℕ, ◌+◌, ◌≤◌, Bool, true, fa
 use Rattle.std.specs.Prelude.{◌==◌}
 use Rattle.std.proofs.lemmas.Bool.{eqb-true}
 use Rattle.std.proofs.lemmas.List.{append-nil}
-use Rattle.rd_top.specs.Form.{Form, IsText, Viable, IsStuck, StopsAt}
-use Rattle.rd_top.specs.Reader.{Stop, Refused, Outcome, Reader, head}
-use Rattle.rd_top.proofs.Laws.{Grows, Lawful, raise, got, got_value, got_rest, stopped}
+use Rattle.rd_parse.specs.Form.{Form, IsText, Viable, IsStuck, StopsAt}
+use Rattle.rd_parse.specs.Reader.{Stop, Refused, Outcome, Reader, head}
+use Rattle.rd_parse.proofs.Laws.{Grows, Lawful, raise, got, got_value, got_rest, stopped}
 
 module _ {T A : Type 0} (P : ℕ → Form T A) (f : ℕ → Reader T A) (first more : T → Bool) (null : Bool) (grows : Grows P) (laws : (n : ℕ) → Lawful n P f first more null) where
   pub text_found : (n : ℕ) (a : A) (ts : List T) → f n ts ≡ Ok (a, []) → IsText P n a ts
@@ -32,11 +32,10 @@ module _ {T A : Type 0} (P : ℕ → Form T A) (f : ℕ → Reader T A) (first m
   pub text_refused : (n : ℕ) (ts after : List T) → f n ts ≡ Err (Refused after) → StopsAt P ts after
   text_refused n ts after e =
       let s = (laws n).refused ts after e in
-      let g = s.completes.gives [] in
       record {
         before = s.used;
         parts = s.parts;
-        viable = (s.completes.by_, s.completes.depth, g.0, subst (λ (c : List T). P s.completes.depth g.0 (s.used ++ c) []) (append-nil s.completes.by_) g.1);
+        viable = (s.completes.by_, s.completes.depth, s.completes.value, subst (λ (c : List T). P s.completes.depth s.completes.value (s.used ++ c) []) (append-nil s.completes.by_) (s.completes.gives []));
         stuck = stuck s.used after s.steady;
       }
     where

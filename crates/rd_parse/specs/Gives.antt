@@ -1,9 +1,9 @@
 -- What a function of the parser returned, as what its reader gives.
 use Rattle.std.specs.Prelude.{◌≡◌, false, List, Option, Some, None, Result, Ok, Err}
 use Rattle.rd_syntax.specs.declared.token.Token.{Token}
-use Rattle.rd_top.specs.declared.parse.halt.Halt.{Halt}
-use Rattle.rd_top.specs.declared.parse.halt.Halt.TheVariants as halt
-use Rattle.rd_top.specs.Reader.{Refused, Deep, Outcome, sees, hits, read_one}
+use Rattle.rd_parse.specs.declared.halt.Halt.{Halt}
+use Rattle.rd_parse.specs.declared.halt.Halt.TheVariants as halt
+use Rattle.rd_parse.specs.Reader.{Refused, Deep, Outcome, sees, hits, read_one}
 
 -- out of memory, or where the reader stops
 abbrev pub Fails : {A : Type 0} → Halt → Outcome Token A → Type 0

@@ -1,7 +1,7 @@
 -- What ties a form to its reader, and that each way to build a form keeps it.
 use Rattle.std.proofs.Common.{◌≡◌, ℕ, zero, suc, ◌+◌, ◌-◌, ◌≤◌, Bool, true, false, ◌&&◌, ◌||◌, List, [], ◌∷◌, ◌++◌, length, Option, Some, None, Ok, Err, refl, sym, ap, subst, ◌∙◌, append_assoc, add-zero, arith, inl, inr, ◌⊎◌}
-use Rattle.rd_top.specs.Form.{Form, one, both}
-use Rattle.rd_top.specs.Reader.{Refused, Outcome, Reader, head, holds, sees, is_there, hits, and_then, ◌>>=◌, pure, took, read_one, read_both}
+use Rattle.rd_parse.specs.Form.{Form, one, both}
+use Rattle.rd_parse.specs.Reader.{Refused, Outcome, Reader, head, holds, sees, is_there, hits, and_then, ◌>>=◌, pure, took, read_one, read_both}
 
 abbrev pub SameHead : {T : Type 0} → List T → List T → Type 0
 SameHead a b = head a ≡ head b
@@ -14,7 +14,8 @@ Grows {T} {A} P = (n : ℕ) (a : A) (ts rest : List T) → P n a ts rest → P (
 pub record Completes {T A : Type 0} (P : ℕ → Form T A) (used : List T) : Type 0 where
   pub depth : ℕ
   pub by_ : List T
-  pub gives : (k : List T) → (a : A) × P depth a (used ++ (by_ ++ k)) k
+  pub value : A
+  pub gives : (k : List T) → P depth value (used ++ (by_ ++ k)) k
 
 pub record Found {T A : Type 0} (n : ℕ) (P : ℕ → Form T A) (f : ℕ → Reader T A) (a : A) (ts rest : List T) : Type 0 where
   pub used : List T
@@ -170,7 +171,7 @@ one_lawful {T} {A} n o t a is = record {
 }
   where
     some : Completes (λ _. one o) []
-    some = record { depth = 0; by_ = t ∷ []; gives = λ k. (a, (is, refl)) }
+    some = record { depth = 0; by_ = t ∷ []; value = a; gives = λ k. (is, refl) }
 
     st : (a : A) (ts rest : List T) → one o a ts rest → (sees (hits o) ts ≡ true) ⊎ ((false ≡ true) × (ts ≡ rest))
     st a [] rest h = absurd h
@@ -261,10 +262,9 @@ module _ {T A B : Type 0} (n : ℕ) (P : ℕ → Form T A) (Q : ℕ → Form T B
         completes = record {
           depth = s.completes.depth + lq.some.depth;
           by_ = s.completes.by_ ++ lq.some.by_;
+          value = (s.completes.value, lq.some.value);
           gives = λ k.
-              let a = s.completes.gives (lq.some.by_ ++ k) in
-              let b = lq.some.gives k in
-              ((a.0, b.0), (lq.some.by_ ++ k, rw append_assoc (raise P grows_p s.completes.depth _ a.0 _ _ (omega arith) a.1), raise Q grows_q lq.some.depth _ b.0 _ _ (omega arith) b.1));
+              (lq.some.by_ ++ k, rw append_assoc (raise P grows_p s.completes.depth _ s.completes.value _ _ (omega arith) (s.completes.gives (lq.some.by_ ++ k))), raise Q grows_q lq.some.depth _ lq.some.value _ _ (omega arith) (lq.some.gives k));
         };
         steady = λ m k le e. rw (s.steady m k le e) refl;
       }
@@ -276,9 +276,9 @@ module _ {T A B : Type 0} (n : ℕ) (P : ℕ → Form T A) (Q : ℕ → Form T B
         completes = record {
           depth = n + s.completes.depth;
           by_ = s.completes.by_;
+          value = (a, s.completes.value);
           gives = λ k.
-              let b = s.completes.gives k in
-              ((a, b.0), (s.used ++ (s.completes.by_ ++ k), rw append_assoc (raise P grows_p n _ a _ _ (omega arith) (p.anywhere (s.used ++ (s.completes.by_ ++ k)))), raise Q grows_q s.completes.depth _ b.0 _ _ (omega arith) b.1));
+              (s.used ++ (s.completes.by_ ++ k), rw append_assoc (raise P grows_p n _ a _ _ (omega arith) (p.anywhere (s.used ++ (s.completes.by_ ++ k)))), raise Q grows_q s.completes.depth _ s.completes.value _ _ (omega arith) (s.completes.gives k));
         };
         steady = λ m k le e.
             both_run m p.used s.used k mid a (Err (Refused k)) (p.steady m (s.used ++ k) le (ap head s.parts ∙ head_append s.used rest k e)) (s.steady m k le e);
@@ -288,10 +288,9 @@ module _ {T A B : Type 0} (n : ℕ) (P : ℕ → Form T A) (Q : ℕ → Form T B
   both_some = record {
     depth = lp.some.depth + lq.some.depth;
     by_ = lp.some.by_ ++ lq.some.by_;
+    value = (lp.some.value, lq.some.value);
     gives = λ k.
-        let a = lp.some.gives (lq.some.by_ ++ k) in
-        let b = lq.some.gives k in
-        ((a.0, b.0), (lq.some.by_ ++ k, rw append_assoc (raise P grows_p lp.some.depth _ a.0 _ _ (omega arith) a.1), raise Q grows_q lq.some.depth _ b.0 _ _ (omega arith) b.1));
+        (lq.some.by_ ++ k, rw append_assoc (raise P grows_p lp.some.depth _ lp.some.value _ _ (omega arith) (lp.some.gives (lq.some.by_ ++ k))), raise Q grows_q lq.some.depth _ lq.some.value _ _ (omega arith) (lq.some.gives k));
   }
 
   pub both_lawful : Lawful n (λ m. both (P m) (Q m)) (λ m. read_both (f m) (g m)) (join np fp fq) (join nq mq mp) (np && nq)

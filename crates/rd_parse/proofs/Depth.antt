@@ -1,9 +1,9 @@
 -- Levels, and other spellings of a form and its reader.
-use Rattle.std.proofs.Common.{◌≡◌, ℕ, zero, suc, ◌≤◌, Bool, true, false, cond, List, [], ◌∷◌, ◌++◌, Option, Some, Ok, Err, refl, sym, ap, ◌∙◌, arith}
-use Rattle.rd_top.specs.Form.{Form, opening, below}
-use Rattle.rd_top.specs.Reader.{Refused, Deep, Outcome, Reader, sees, hits, read_one, read_opening, read_below}
-use Rattle.rd_top.proofs.Laws.{Grows, Completes, Stops, Lawful, stopped_rest, same_sees, one_none, one_stops, one_lawful}
-use Rattle.rd_top.proofs.More.{by_false}
+use Rattle.std.proofs.Common.{◌≡◌, ℕ, zero, suc, ◌≤◌, ◌<◌, Bool, true, false, cond, List, [], ◌∷◌, ◌++◌, Option, Some, Ok, Err, refl, sym, ap, ◌∙◌, arith}
+use Rattle.rd_parse.specs.Form.{Form, opening, below}
+use Rattle.rd_parse.specs.Reader.{Refused, Deep, Outcome, Reader, sees, hits, read_one, read_opening, read_below}
+use Rattle.rd_parse.proofs.Laws.{Grows, Completes, Stops, Lawful, stopped_rest, same_sees, one_none, one_stops, one_lawful}
+use Rattle.rd_parse.proofs.More.{by_false}
 
 -- ---- a token that opens a level
 
@@ -16,7 +16,7 @@ opening_none o zero k h = by_false (sees (hits o) k) _ _ h
 opening_none o (suc m) k h = one_none o k h
 
 opening_some : {T A : Type 0} (o : T → Option A) (t : T) (a : A) → o t ≡ Some a → Completes (opening o) []
-opening_some o t a is = record { depth = 1; by_ = t ∷ []; gives = λ k. (a, (is, refl)) }
+opening_some o t a is = record { depth = 1; by_ = t ∷ []; value = a; gives = λ k. (is, refl) }
 
 opening_stops : {T A : Type 0} (n : ℕ) (o : T → Option A) → Completes (opening o) [] → (ts rest : List T) → sees (hits o) ts ≡ false → ts ≡ rest → Stops n (opening o) (read_opening o) ts rest
 opening_stops n o some ts rest t same = record { used = []; parts = same; completes = some; steady = λ m k le e. opening_none o m k (sym (same_sees (hits o) rest k e) ∙ ap (sees (hits o)) (sym same) ∙ t) }
@@ -53,42 +53,57 @@ opening_lawful {T} {A} (suc n) o t a is =
       some = opening_some o t a is;
     }
 
+-- how a function looks at the level
+pub opens_some : {T A : Type 0} (o : T → Option A) (n : ℕ) (ts : List T) → 0 < n → read_opening o n ts ≡ read_one o ts
+opens_some o zero ts lt = absurd (omega arith)
+opens_some o (suc n) ts lt = refl
+
+pub opens_none : {T A : Type 0} (o : T → Option A) (n : ℕ) (ts : List T) → n ≡ 0 → read_opening o n ts ≡ cond (sees (hits o) ts) (Err (Deep ts)) (Err (Refused ts))
+opens_none o zero ts e = refl
+opens_none o (suc n) ts e = absurd cc
+
 -- ---- one level further in
 
 pub below_grows : {T A : Type 0} (P : ℕ → Form T A) → Grows P → Grows (below P)
 below_grows P p zero a ts rest h = absurd h
 below_grows P p (suc n) a ts rest h = p n a ts rest h
 
-below_steady : {T A : Type 0} (f : ℕ → Reader T A) (x : List T) (r : Outcome T A) (n : ℕ) → ((m : ℕ) → n ≤ m → f m x ≡ r) → (m : ℕ) → suc n ≤ m → read_below f m x ≡ r
-below_steady f x r n h zero le = absurd (omega arith)
-below_steady f x r n h (suc m) le = h m (omega arith)
+later_steady : {T A : Type 0} (f : ℕ → Reader T A) (x : List T) (r : Outcome T A) (n : ℕ) → ((m : ℕ) → n ≤ m → f (suc m) x ≡ r) → (m : ℕ) → suc n ≤ m → f m x ≡ r
+later_steady f x r n h zero le = absurd (omega arith)
+later_steady f x r n h (suc m) le = h m (omega arith)
 
-pub below_zero : {T A : Type 0} (P : ℕ → Form T A) (f : ℕ → Reader T A) (fp mp : T → Bool) (np : Bool) → Completes P [] → Lawful 0 (below P) (read_below f) fp mp np
-below_zero {T} {A} P f fp mp np some = record {
-  starts = λ a ts rest h. absurd h;
-  shrinks = λ a ts rest h. absurd h;
-  only = λ a ts rest h m. absurd h;
-  found = λ a ts rest e. absurd (let no : (let r : Outcome T A = Err (Deep ts) in r) ≡ Ok (a, rest) = e in cc);
-  refused = λ ts rest e. absurd (let no : (let r : Outcome T A = Err (Deep ts) in r) ≡ Err (Refused rest) = e in cc);
-  some = record { depth = suc some.depth; by_ = some.by_; gives = some.gives };
+-- where no level may open, nothing is read
+pub down_zero : {T A : Type 0} (P : ℕ → Form T A) (f : ℕ → Reader T A) (fp mp : T → Bool) (np : Bool)
+    → ((a : A) (ts rest : List T) → P 0 a ts rest → ⊥) → ((ts : List T) → f 0 ts ≡ Err (Deep ts)) → Completes P [] → Lawful 0 P f fp mp np
+down_zero {T} {A} P f fp mp np none deep some = record {
+  starts = λ a ts rest h. absurd (none a ts rest h);
+  shrinks = λ a ts rest h. absurd (none a ts rest h);
+  only = λ a ts rest h m. absurd (none a ts rest h);
+  found = λ a ts rest e. absurd (let no : (let r : Outcome T A = Err (Deep ts) in r) ≡ Ok (a, rest) = sym (deep ts) ∙ e in cc);
+  refused = λ ts rest e. absurd (let no : (let r : Outcome T A = Err (Deep ts) in r) ≡ Err (Refused rest) = sym (deep ts) ∙ e in cc);
+  some = some;
 }
 
-pub below_suc : {T A : Type 0} (n : ℕ) (P : ℕ → Form T A) (f : ℕ → Reader T A) (fp mp : T → Bool) (np : Bool) → Lawful n P f fp mp np → Lawful (suc n) (below P) (read_below f) fp mp np
-below_suc n P f fp mp np l = record {
+pub deeper_some : {T A : Type 0} (P : ℕ → Form T A) (used : List T) → Completes (λ m. P (suc m)) used → Completes P used
+deeper_some P used c = record { depth = suc c.depth; by_ = c.by_; value = c.value; gives = c.gives }
+
+pub down_suc : {T A : Type 0} (n : ℕ) (P : ℕ → Form T A) (f : ℕ → Reader T A) (fp mp : T → Bool) (np : Bool) → Lawful n (λ m. P (suc m)) (λ m. f (suc m)) fp mp np → Lawful (suc n) P f fp mp np
+down_suc n P f fp mp np l = record {
   starts = l.starts;
   shrinks = l.shrinks;
   only = l.only;
-  found = λ a ts rest e. let s = l.found a ts rest e in record { used = s.used; parts = s.parts; anywhere = s.anywhere; steady = λ m k le h. below_steady f (s.used ++ k) _ n (λ m le. s.steady m k le h) m le };
+  found = λ a ts rest e. let s = l.found a ts rest e in record { used = s.used; parts = s.parts; anywhere = s.anywhere; steady = λ m k le h. later_steady f (s.used ++ k) _ n (λ m le. s.steady m k le h) m le };
   refused = λ ts rest e.
       let s = l.refused ts rest e in
-      record {
-        used = s.used;
-        parts = s.parts;
-        completes = record { depth = suc s.completes.depth; by_ = s.completes.by_; gives = s.completes.gives };
-        steady = λ m k le h. below_steady f (s.used ++ k) _ n (λ m le. s.steady m k le h) m le;
-      };
-  some = record { depth = suc l.some.depth; by_ = l.some.by_; gives = l.some.gives };
+      record { used = s.used; parts = s.parts; completes = deeper_some P s.used s.completes; steady = λ m k le h. later_steady f (s.used ++ k) _ n (λ m le. s.steady m k le h) m le };
+  some = deeper_some P [] l.some;
 }
+
+pub below_zero : {T A : Type 0} (P : ℕ → Form T A) (f : ℕ → Reader T A) (fp mp : T → Bool) (np : Bool) → Completes P [] → Lawful 0 (below P) (read_below f) fp mp np
+below_zero P f fp mp np some = down_zero (below P) (read_below f) fp mp np (λ a ts rest h. h) (λ ts. refl) (deeper_some (below P) [] some)
+
+pub below_suc : {T A : Type 0} (n : ℕ) (P : ℕ → Form T A) (f : ℕ → Reader T A) (fp mp : T → Bool) (np : Bool) → Lawful n P f fp mp np → Lawful (suc n) (below P) (read_below f) fp mp np
+below_suc n P f fp mp np l = down_suc n (below P) (read_below f) fp mp np l
 
 -- ---- the same form and reader, spelled otherwise
 
@@ -110,8 +125,8 @@ recast n P Q f g fp mp np same l = record {
       record {
         used = s.used;
         parts = s.parts;
-        completes = record { depth = s.completes.depth; by_ = s.completes.by_; gives = λ k. let a = s.completes.gives k in (a.0, same.there s.completes.depth a.0 _ k a.1) };
+        completes = record { depth = s.completes.depth; by_ = s.completes.by_; value = s.completes.value; gives = λ k. same.there s.completes.depth s.completes.value _ k (s.completes.gives k) };
         steady = λ m k le h. sym (same.reads m (s.used ++ k)) ∙ s.steady m k le h;
       };
-  some = record { depth = l.some.depth; by_ = l.some.by_; gives = λ k. let a = l.some.gives k in (a.0, same.there l.some.depth a.0 _ k a.1) };
+  some = record { depth = l.some.depth; by_ = l.some.by_; value = l.some.value; gives = λ k. same.there l.some.depth l.some.value _ k (l.some.gives k) };
 }

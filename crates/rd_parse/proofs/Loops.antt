@@ -1,10 +1,10 @@
 -- Readers of many, as a loop reads them.
 use Rattle.std.proofs.Common.{◌≡◌, ℕ, zero, suc, ◌<◌, Bool, true, false, cond, List, [], ◌∷◌, ◌++◌, length, Ok, Err, refl, sym, ap, ◌∙◌, append_assoc, length-append, arith, inl, inr, Option, Some, None}
 use Rattle.std.proofs.lemmas.List.{append-nil}
-use Rattle.rd_top.specs.Form.{Form}
-use Rattle.rd_top.specs.Reader.{Stop, Outcome, Reader, sees, hits, and_then, ◌>>=◌, pure, took, read_one, read_many, onto, read_many_by, read_tail, read_tail_by}
-use Rattle.rd_top.proofs.Laws.{Lawful, one_none, got, got_rest}
-use Rattle.rd_top.proofs.More.{by_true, by_false, way}
+use Rattle.rd_parse.specs.Form.{Form}
+use Rattle.rd_parse.specs.Reader.{Stop, Outcome, Reader, sees, hits, and_then, ◌>>=◌, pure, took, read_one, read_many, onto, read_many_by, read_tail, read_tail_by}
+use Rattle.rd_parse.proofs.Laws.{Lawful, one_none, got, got_rest}
+use Rattle.rd_parse.proofs.More.{by_true, by_false, way}
 
 -- A reader that takes something leaves less.
 abbrev pub Shrinks : {T A : Type 0} → Reader T A → Type 0

@@ -13,6 +13,18 @@ one f a (t ∷ ts) rest = (f t ≡ Some a) × (ts ≡ rest)
 abbrev pub both : {T A B : Type 0} → Form T A → Form T B → Form T (A × B)
 both {T} p q x ts rest = (mid : List T) × p x.0 ts mid × q x.1 mid rest
 
+-- this value, of no token
+abbrev pub yields : {T A : Type 0} → A → Form T A
+yields a b ts rest = (a ≡ b) × (ts ≡ rest)
+
+-- one after the other, where the first one's value decides what may come and what is made of both
+abbrev pub bound : {T A B : Type 0} → Form T A → (A → Form T B) → Form T B
+bound {T} {A} p q b ts rest = (a : A) × (mid : List T) × p a ts mid × q a b mid rest
+
+infixl 10 ◌>>=◌
+abbrev pub ◌>>=◌ : {T A B : Type 0} → Form T A → (A → Form T B) → Form T B
+p >>= q = bound p q
+
 -- what is made of a value
 abbrev pub made : {T A B : Type 0} → (A → B) → Form T A → Form T B
 made {T} {A} g p b ts rest = (a : A) × (g a ≡ b) × p a ts rest

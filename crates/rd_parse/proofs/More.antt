@@ -1,8 +1,8 @@
 -- Choices, repetitions and depth.
 use Rattle.std.proofs.Common.{◌≡◌, ℕ, ◌+◌, ◌≤◌, Bool, true, false, cond, List, [], ◌++◌, length, Option, Some, None, Ok, Err, refl, sym, ap, subst, ◌∙◌, arith, inl, inr, ◌⊎◌}
-use Rattle.rd_top.specs.Form.{Form, made, either, opt}
-use Rattle.rd_top.specs.Reader.{Refused, Outcome, Reader, head, holds, sees, pure, read_made, read_either, read_opt}
-use Rattle.rd_top.proofs.Laws.{Grows, Found, Stops, Lawful, got, got_value, got_rest, bind_ok, bind_err, head_append, same_sees, join, Apart, sees_left, sees_right, none_left, none_right, apart_sees}
+use Rattle.rd_parse.specs.Form.{Form, made, either, opt}
+use Rattle.rd_parse.specs.Reader.{Refused, Outcome, Reader, head, holds, sees, pure, read_made, read_either, read_opt}
+use Rattle.rd_parse.proofs.Laws.{Grows, Found, Stops, least, Lawful, got, got_value, got_rest, bind_ok, bind_err, head_append, same_sees, join, Apart, sees_left, sees_right, none_left, none_right, apart_sees}
 
 -- ---- what is made of a value
 
@@ -29,7 +29,7 @@ module _ {T A B : Type 0} (n : ℕ) (h : A → B) (P : ℕ → Form T A) (f : �
       stops s = record {
         used = s.used;
         parts = s.parts;
-        completes = record { depth = s.completes.depth; by_ = s.completes.by_; gives = λ k. let a = s.completes.gives k in (h a.0, (a.0, refl, a.1)) };
+        completes = record { depth = s.completes.depth; by_ = s.completes.by_; value = h s.completes.value; gives = λ k. (s.completes.value, refl, s.completes.gives k) };
         steady = λ m k le e. rw (s.steady m k le e) refl;
       }
 
@@ -40,7 +40,7 @@ module _ {T A B : Type 0} (n : ℕ) (h : A → B) (P : ℕ → Form T A) (f : �
     only = made_only;
     found = made_found;
     refused = made_refused;
-    some = record { depth = lp.some.depth; by_ = lp.some.by_; gives = λ k. let a = lp.some.gives k in (h a.0, (a.0, refl, a.1)) };
+    some = record { depth = lp.some.depth; by_ = lp.some.by_; value = h lp.some.value; gives = λ k. (lp.some.value, refl, lp.some.gives k) };
   }
 
 pub made_grows : {T A B : Type 0} (h : A → B) (P : ℕ → Form T A) → Grows P → Grows (λ m. made h (P m))
@@ -64,33 +64,52 @@ pub way : (b : Bool) → (b ≡ true) ⊎ (b ≡ false)
 way true = inl refl
 way false = inr refl
 
+least_one : (b : Bool) → least b ≤ 1
+least_one true = omega arith
+least_one false = omega arith
+
 module _ {T A : Type 0} (n : ℕ) (P : ℕ → Form T A) (Q : ℕ → Form T A) (f : ℕ → Reader T A) (g : ℕ → Reader T A)
-    (fp mp fq mq : T → Bool) (apart : Apart fq fp) (lp : Lawful n P f fp mp false) (lq : Lawful n Q g fq mq false) where
-  either_starts : (a : A) (ts rest : List T) → either (P n) (Q n) a ts rest → (sees (join true fp fq) ts ≡ true) ⊎ ((false ≡ true) × (ts ≡ rest))
+    (fp mp fq mq : T → Bool) (nq : Bool) (apart : Apart fq fp) (lp : Lawful n P f fp mp false) (lq : Lawful n Q g fq mq nq) where
+  abbrev E : ℕ → Form T A
+  E m = either (P m) (Q m)
+
+  abbrev R : ℕ → Reader T A
+  R m = read_either fp (f m) (g m)
+
+  either_starts : (a : A) (ts rest : List T) → E n a ts rest → (sees (join true fp fq) ts ≡ true) ⊎ ((nq ≡ true) × (ts ≡ rest))
   either_starts a ts rest h =
       elim h [
         | inl p ↦ inl (sees_left true fp fq ts (begins n P f fp mp lp a ts rest p))
-        | inr q ↦ inl (sees_right fp fq ts (begins n Q g fq mq lq a ts rest q))
+        | inr q ↦ elim (lq.starts a ts rest q) [ inl s ↦ inl (sees_right fp fq ts s) | inr e ↦ inr e ]
       ]
 
-  either_shrinks : (a : A) (ts rest : List T) → either (P n) (Q n) a ts rest → length rest + 1 ≤ length ts
-  either_shrinks a ts rest h = elim h [ inl p ↦ lp.shrinks a ts rest p | inr q ↦ lq.shrinks a ts rest q ]
+  either_shrinks : (a : A) (ts rest : List T) → E n a ts rest → length rest + least nq ≤ length ts
+  either_shrinks a ts rest h = elim h [ inl p ↦ omega (arith, lp.shrinks a ts rest p, least_one nq) | inr q ↦ lq.shrinks a ts rest q ]
 
-  either_only : (a : A) (ts rest : List T) → either (P n) (Q n) a ts rest → sees (join true mp mq) rest ≡ false → read_either fp (f n) (g n) ts ≡ Ok (a, rest)
+  -- what the second one spells doesn't begin as the first one
+  second_begins : (a : A) (ts rest : List T) → Q n a ts rest → sees (join nq (join true mp mq) fp) rest ≡ false → sees fp ts ≡ false
+  second_begins a ts rest q m =
+      elim (lq.starts a ts rest q) [
+        | inl s ↦ apart_sees fq fp apart ts s
+        | inr e ↦ ap (sees fp) e.1 ∙ none_right (join true mp mq) fp rest (subst (λ b. sees (join b (join true mp mq) fp) rest ≡ false) e.0 m)
+      ]
+
+  either_only : (a : A) (ts rest : List T) → E n a ts rest → sees (join nq (join true mp mq) fp) rest ≡ false → R n ts ≡ Ok (a, rest)
   either_only a ts rest h m =
+      let both_more : sees (join true mp mq) rest ≡ false = none_left nq (join true mp mq) fp rest m in
       elim h [
-        | inl p ↦ by_true (sees fp ts) _ _ (begins n P f fp mp lp a ts rest p) ∙ lp.only a ts rest p (none_left true mp mq rest m)
-        | inr q ↦ by_false (sees fp ts) _ _ (apart_sees fq fp apart ts (begins n Q g fq mq lq a ts rest q)) ∙ lq.only a ts rest q (none_right mp mq rest m)
+        | inl p ↦ by_true (sees fp ts) _ _ (begins n P f fp mp lp a ts rest p) ∙ lp.only a ts rest p (none_left true mp mq rest both_more)
+        | inr q ↦ by_false (sees fp ts) _ _ (second_begins a ts rest q m) ∙ lq.only a ts rest q (none_right mp mq rest both_more)
       ]
 
-  either_found : (a : A) (ts rest : List T) → read_either fp (f n) (g n) ts ≡ Ok (a, rest) → Found n (λ m. either (P m) (Q m)) (λ m. read_either fp (f m) (g m)) a ts rest
+  either_found : (a : A) (ts rest : List T) → R n ts ≡ Ok (a, rest) → Found n E R a ts rest
   either_found a ts rest e =
       elim (way (sees fp ts)) [
         | inl s ↦ first (lp.found a ts rest (sym (by_true (sees fp ts) _ _ s) ∙ e))
-        | inr s ↦ second (lq.found a ts rest (sym (by_false (sees fp ts) _ _ s) ∙ e))
+        | inr s ↦ second s (lq.found a ts rest (sym (by_false (sees fp ts) _ _ s) ∙ e))
       ]
     where
-      first : Found n P f a ts rest → Found n (λ m. either (P m) (Q m)) (λ m. read_either fp (f m) (g m)) a ts rest
+      first : Found n P f a ts rest → Found n E R a ts rest
       first s = record {
         used = s.used;
         parts = s.parts;
@@ -98,45 +117,45 @@ module _ {T A : Type 0} (n : ℕ) (P : ℕ → Form T A) (Q : ℕ → Form T A) 
         steady = λ m k le e. by_true (sees fp (s.used ++ k)) _ _ (begins n P f fp mp lp a _ k (s.anywhere k)) ∙ s.steady m k le e;
       }
 
-      second : Found n Q g a ts rest → Found n (λ m. either (P m) (Q m)) (λ m. read_either fp (f m) (g m)) a ts rest
-      second s = record {
+      second : sees fp ts ≡ false → Found n Q g a ts rest → Found n E R a ts rest
+      second t s = record {
         used = s.used;
         parts = s.parts;
         anywhere = λ k. inr (s.anywhere k);
-        steady = λ m k le e. by_false (sees fp (s.used ++ k)) _ _ (apart_sees fq fp apart (s.used ++ k) (begins n Q g fq mq lq a _ k (s.anywhere k))) ∙ s.steady m k le e;
+        steady = λ m k le e. by_false (sees fp (s.used ++ k)) _ _ (sym (ap (holds fp) (ap head s.parts ∙ head_append s.used rest k e)) ∙ t) ∙ s.steady m k le e;
       }
 
-  either_refused : (ts rest : List T) → read_either fp (f n) (g n) ts ≡ Err (Refused rest) → Stops n (λ m. either (P m) (Q m)) (λ m. read_either fp (f m) (g m)) ts rest
+  either_refused : (ts rest : List T) → R n ts ≡ Err (Refused rest) → Stops n E R ts rest
   either_refused ts rest e =
       elim (way (sees fp ts)) [
         | inl s ↦ first s (lp.refused ts rest (sym (by_true (sees fp ts) _ _ s) ∙ e))
         | inr s ↦ second s (lq.refused ts rest (sym (by_false (sees fp ts) _ _ s) ∙ e))
       ]
     where
-      first : sees fp ts ≡ true → Stops n P f ts rest → Stops n (λ m. either (P m) (Q m)) (λ m. read_either fp (f m) (g m)) ts rest
+      first : sees fp ts ≡ true → Stops n P f ts rest → Stops n E R ts rest
       first t s = record {
         used = s.used;
         parts = s.parts;
-        completes = record { depth = s.completes.depth; by_ = s.completes.by_; gives = λ k. let a = s.completes.gives k in (a.0, inl a.1) };
+        completes = record { depth = s.completes.depth; by_ = s.completes.by_; value = s.completes.value; gives = λ k. inl (s.completes.gives k) };
         steady = λ m k le e. by_true (sees fp (s.used ++ k)) _ _ (sym (ap (holds fp) (ap head s.parts ∙ head_append s.used rest k e)) ∙ t) ∙ s.steady m k le e;
       }
 
-      second : sees fp ts ≡ false → Stops n Q g ts rest → Stops n (λ m. either (P m) (Q m)) (λ m. read_either fp (f m) (g m)) ts rest
+      second : sees fp ts ≡ false → Stops n Q g ts rest → Stops n E R ts rest
       second t s = record {
         used = s.used;
         parts = s.parts;
-        completes = record { depth = s.completes.depth; by_ = s.completes.by_; gives = λ k. let a = s.completes.gives k in (a.0, inr a.1) };
+        completes = record { depth = s.completes.depth; by_ = s.completes.by_; value = s.completes.value; gives = λ k. inr (s.completes.gives k) };
         steady = λ m k le e. by_false (sees fp (s.used ++ k)) _ _ (sym (ap (holds fp) (ap head s.parts ∙ head_append s.used rest k e)) ∙ t) ∙ s.steady m k le e;
       }
 
-  pub either_lawful : Lawful n (λ m. either (P m) (Q m)) (λ m. read_either fp (f m) (g m)) (join true fp fq) (join true mp mq) false
+  pub either_lawful : Lawful n (λ m. either (P m) (Q m)) (λ m. read_either fp (f m) (g m)) (join true fp fq) (join nq (join true mp mq) fp) nq
   either_lawful = record {
     starts = either_starts;
     shrinks = either_shrinks;
     only = either_only;
     found = either_found;
     refused = either_refused;
-    some = record { depth = lp.some.depth; by_ = lp.some.by_; gives = λ k. let a = lp.some.gives k in (a.0, inl a.1) };
+    some = record { depth = lp.some.depth; by_ = lp.some.by_; value = lp.some.value; gives = λ k. inl (lp.some.gives k) };
   }
 
 pub either_grows : {T A : Type 0} (P Q : ℕ → Form T A) → Grows P → Grows Q → Grows (λ m. either (P m) (Q m))
@@ -201,7 +220,7 @@ module _ {T A : Type 0} (n : ℕ) (P : ℕ → Form T A) (f : ℕ → Reader T A
       first t s = record {
         used = s.used;
         parts = s.parts;
-        completes = record { depth = s.completes.depth; by_ = s.completes.by_; gives = λ k. let a = s.completes.gives k in (Some a.0, a.1) };
+        completes = record { depth = s.completes.depth; by_ = s.completes.by_; value = Some s.completes.value; gives = s.completes.gives };
         steady = λ m k le e. by_true (sees fp (s.used ++ k)) _ _ (sym (ap (holds fp) (ap head s.parts ∙ head_append s.used rest k e)) ∙ t) ∙ rw (s.steady m k le e) refl;
       }
 
@@ -212,7 +231,7 @@ module _ {T A : Type 0} (n : ℕ) (P : ℕ → Form T A) (f : ℕ → Reader T A
     only = opt_only;
     found = opt_found;
     refused = opt_refused;
-    some = record { depth = 0; by_ = []; gives = λ k. (None, refl) };
+    some = record { depth = 0; by_ = []; value = None; gives = λ k. refl };
   }
 
 pub opt_grows : {T A : Type 0} (P : ℕ → Form T A) → Grows P → Grows (λ m. opt (P m))

@@ -1,6 +1,6 @@
 -- Readers: from the left, with the tokens at which reading stops.
-use Rattle.std.specs.Prelude.{ℕ, zero, suc, Bool, true, false, if◌then◌else◌, List, [], ◌∷◌, ◌++◌, length, Option, Some, None, Result, Ok, Err}
-use Rattle.rd_top.specs.Form.{all_of}
+use Rattle.std.specs.Prelude.{ℕ, zero, suc, Bool, true, false, ◌&&◌, if◌then◌else◌, List, [], ◌∷◌, ◌++◌, length, Option, Some, None, Result, Ok, Err}
+use Rattle.rd_parse.specs.Form.{all_of}
 
 pub data Stop (T : Type 0) : Type 0 where
   -- no text goes on with the first of these tokens
@@ -63,6 +63,15 @@ read_made h f = f >>= λ a. pure (h a)
 
 abbrev pub read_either : {T A : Type 0} → (T → Bool) → Reader T A → Reader T A → Reader T A
 read_either s f g = λ ts. if sees s ts then f ts else g ts
+
+-- the first token is of one set, and what comes behind it passes a test
+abbrev pub pair : {T : Type 0} → (T → Bool) → (Option T → Bool) → List T → Bool
+pair a b [] = false
+pair a b (t ∷ ts) = a t && b (head ts)
+
+-- a choice by two tokens
+abbrev pub read_pick : {T A : Type 0} → (T → Bool) → (Option T → Bool) → Reader T A → Reader T A → Reader T A
+read_pick a b f g = λ ts. if pair a b ts then f ts else g ts
 
 abbrev pub read_opt : {T A : Type 0} → (T → Bool) → Reader T A → Reader T (Option A)
 read_opt s f = λ ts. if sees s ts then read_made Some f ts else Ok (None, ts)

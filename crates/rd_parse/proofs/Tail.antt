@@ -1,9 +1,9 @@
 -- Lists behind signs, with a state.
 use Rattle.std.proofs.Common.{◌≡◌, ℕ, zero, suc, ◌+◌, ◌≤◌, ◌<◌, Bool, true, false, cond, List, [], ◌∷◌, ◌++◌, length, Option, Some, Ok, Err, refl, sym, ap, subst, ◌∙◌, append_assoc, arith, inl, inr, ◌⊎◌, length-append}
-use Rattle.rd_top.specs.Form.{Form, one, tail}
-use Rattle.rd_top.specs.Reader.{Refused, Outcome, Reader, head, holds, sees, hits, and_then, ◌>>=◌, pure, read_one, read_tail_by, read_tail}
-use Rattle.rd_top.proofs.Laws.{SameHead, Grows, Completes, Found, Stops, Lawful, got, got_value, got_rest, stopped, bind_ok, bind_err, head_append, same_sees, raise, join, Apart, none_left, none_right, apart_sees, one_stops, one_lawful}
-use Rattle.rd_top.proofs.More.{begins, by_true, by_false, way}
+use Rattle.rd_parse.specs.Form.{Form, one, tail}
+use Rattle.rd_parse.specs.Reader.{Refused, Outcome, Reader, head, holds, sees, hits, and_then, ◌>>=◌, pure, read_one, read_tail_by, read_tail}
+use Rattle.rd_parse.proofs.Laws.{SameHead, Grows, Completes, Found, Stops, Lawful, got, got_value, got_rest, stopped, bind_ok, bind_err, head_append, same_sees, raise, join, Apart, none_left, none_right, apart_sees, one_stops, one_lawful}
+use Rattle.rd_parse.proofs.More.{begins, by_true, by_false, way}
 
 from_suc : (Q : ℕ → Type 0) (below_ : ℕ) → ((turns : ℕ) → below_ ≤ turns → Q (suc turns)) → (turns : ℕ) → below_ < turns → Q turns
 from_suc Q below_ h zero lt = absurd (omega arith)
@@ -173,7 +173,8 @@ module _ {T S C A : Type 0} (n : ℕ) (c : T → Option C) (sign : T) (is_sign :
     completes = record {
       depth = q.completes.depth;
       by_ = q.completes.by_;
-      gives = λ k. let a = q.completes.gives k in (a.0 ∷ [], (u, q.used ++ (q.completes.by_ ++ k), rw append_assoc (g.anywhere (q.used ++ (q.completes.by_ ++ k))), k, a.1, inl refl));
+      value = q.completes.value ∷ [];
+      gives = λ k. (u, q.used ++ (q.completes.by_ ++ k), rw append_assoc (g.anywhere (q.used ++ (q.completes.by_ ++ k))), k, q.completes.gives k, inl refl);
     };
     steady = λ m turns k le e lt.
         let here : SameHead x (q.used ++ k) = ap head q.parts ∙ head_append q.used rest k e in
@@ -190,18 +191,15 @@ module _ {T S C A : Type 0} (n : ℕ) (c : T → Option C) (sign : T) (is_sign :
     completes = record {
       depth = n + q.completes.depth;
       by_ = q.completes.by_;
+      value = a ∷ q.completes.value;
       gives = λ k.
-          let b = q.completes.gives k in
           let end : List T = q.completes.by_ ++ k in (
-            a ∷ b.0,
-            (
-              u,
-              p.used ++ (q.used ++ end),
-              rw (append_assoc, append_assoc) (g.anywhere (p.used ++ (q.used ++ end))),
-              q.used ++ end,
-              raise (P s) (grows s) n _ a _ _ (omega arith) (p.anywhere (q.used ++ end)),
-              raise (T' (step s a)) (tail_grows (step s a)) q.completes.depth _ b.0 _ _ (omega arith) b.1,
-            ),
+            u,
+            p.used ++ (q.used ++ end),
+            rw (append_assoc, append_assoc) (g.anywhere (p.used ++ (q.used ++ end))),
+            q.used ++ end,
+            raise (P s) (grows s) n _ a _ _ (omega arith) (p.anywhere (q.used ++ end)),
+            raise (T' (step s a)) (tail_grows (step s a)) q.completes.depth _ q.completes.value _ _ (omega arith) (q.completes.gives k),
           );
     };
     steady = λ m turns k le e lt.
@@ -247,5 +245,5 @@ module _ {T S C A : Type 0} (n : ℕ) (c : T → Option C) (sign : T) (is_sign :
     refused = λ ts rest e.
         let q = tail_refused_by (suc (length ts)) s ts rest e in
         record { used = q.used; parts = q.parts; completes = q.completes; steady = λ m k le h. q.steady m (suc (length (q.used ++ k))) k le h (omega (arith, length-append q.used k)) };
-    some = record { depth = 0; by_ = []; gives = λ k. ([], inl refl) };
+    some = record { depth = 0; by_ = []; value = []; gives = λ k. inl refl };
   }

@@ -1,7 +1,7 @@
 -- Readers step by step, and the same as one combinator.
 use Rattle.std.proofs.Common.{◌≡◌, ℕ, Bool, true, false, cond, List, [], ◌∷◌, Option, Some, None, Ok, Err, refl}
-use Rattle.rd_top.specs.Form.{all_of}
-use Rattle.rd_top.specs.Reader.{Refused, Deep, Outcome, Reader, sees, hits, and_then, ◌>>=◌, pure, read_both, read_made, read_opt, read_opening, read_open}
+use Rattle.rd_parse.specs.Form.{all_of}
+use Rattle.rd_parse.specs.Reader.{Refused, Deep, Outcome, Reader, sees, hits, and_then, ◌>>=◌, pure, read_both, read_made, read_opt, read_opening, read_open}
 
 pub assoc : {T A B C : Type 0} (r : Outcome T A) (f : A → Reader T B) (g : B → Reader T C) → and_then (and_then r f) g ≡ and_then r (λ a ts. and_then (f a ts) g)
 assoc (Ok x) f g = refl

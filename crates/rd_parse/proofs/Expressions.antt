@@ -1,0 +1,582 @@
+-- The rules of expressions are lawful.
+use Rattle.std.proofs.Common.{◌≡◌, not, ◌<◌, ◌⊎◌, length, subst, inr, Ok, Err, ℕ, zero, suc, Bool, true, false, List, [], ◌∷◌, ◌++◌, None, Some, Option, refl, inl, codes, pos, sym, ap, ◌∙◌}
+use Rattle.rd_syntax.specs.declared.token.Token.{Token}
+use Rattle.rd_value.specs.declared.value.Datum.TheVariants as value
+use Rattle.rd_parse.specs.declared.terminal.Terminal.{Terminal}
+use Rattle.rd_parse.specs.declared.terminal.Terminal.TheVariants as w
+use Rattle.rd_parse.specs.declared.tree.Name.{Name}
+use Rattle.rd_parse.specs.declared.tree.Operator.TheVariants.{Add, Mul}
+use Rattle.rd_parse.specs.declared.tree.Comparison.TheVariants as compared
+use Rattle.rd_parse.specs.declared.tree.Node.TheVariants as node
+use Rattle.rd_parse.specs.Form.{Form, one, opening}
+use Rattle.rd_parse.specs.Reader.{Reader, read_one, Refused, Deep, Outcome, hits, is_there, sees, head, pair}
+use Rattle.rd_parse.specs.Terminal.{terminal, among, is, flag, spells, named, name_of, word_of, spelled, text_of, quoted, number_of, counted}
+use Rattle.rd_parse.specs.Expressions as form
+use Rattle.rd_parse.specs.Expressions.{Tree, Level, Argument, Arguments, Positional, Keyword, behind, sorted, joined, chained, anded, ored, plus_of, plus_by, times_of, times_by, comparison_of, comparison_by, constant_of, constant_by, begins_expression, begins_argument, begins_part, begins_comparison}
+use Rattle.rd_parse.specs.Reading as reader
+use Rattle.rd_parse.specs.Reading.{Readers, no_call, assigned}
+use Rattle.rd_parse.proofs.Laws.{Lawful, got, got_rest, stopped_rest, or_none}
+use Rattle.rd_parse.proofs.More.{way}
+use Rattle.rd_parse.proofs.Rules.{and_false}
+use Rattle.rd_parse.proofs.Pick.{Apart2, eager_by}
+use Rattle.rd_parse.proofs.Sets.{holds_one, set, within, join_set, and_both, by_way}
+use Rattle.rd_parse.proofs.Samples.{example, example_is}
+use Rattle.rd_parse.proofs.Steps.{Step, wide, carries, takes, opened, opens_with, makes, then, chooses, each, tests, commas, commas_by, picks}
+
+-- ---- the tokens that may begin a form, and those with which one may go on
+
+abbrev pub atom_first : List Terminal
+atom_first = w.Name ∷ w.Int ∷ w.Text ∷ w.Nothing ∷ w.True ∷ w.False ∷ w.LeftParen ∷ w.LeftSquare ∷ w.LeftCurly ∷ []
+
+abbrev pub factor_first : List Terminal
+factor_first = w.Minus ∷ atom_first
+
+abbrev pub first : List Terminal
+first = w.Not ∷ factor_first
+
+abbrev pub part_first : List Terminal
+part_first = w.LeftSquare ∷ w.Dot ∷ []
+
+abbrev pub comparison_first : List Terminal
+comparison_first = w.Equal ∷ w.NotEqual ∷ w.Less ∷ w.AtMost ∷ w.Greater ∷ w.AtLeast ∷ w.In ∷ w.Not ∷ []
+
+abbrev pub atom_more : List Terminal
+atom_more = w.LeftParen ∷ w.Text ∷ []
+
+abbrev pub parts_more : List Terminal
+parts_more = w.LeftParen ∷ part_first
+
+abbrev pub factor_more : List Terminal
+factor_more = part_first ++ atom_more
+
+abbrev pub term_more : List Terminal
+term_more = w.Star ∷ w.Slashes ∷ w.Percent ∷ factor_more
+
+abbrev pub sum_more : List Terminal
+sum_more = w.Plus ∷ w.Minus ∷ term_more
+
+abbrev pub comparison_more : List Terminal
+comparison_more = comparison_first ++ sum_more
+
+abbrev pub conjunction_more : List Terminal
+conjunction_more = w.And ∷ comparison_more
+
+abbrev pub disjunction_more : List Terminal
+disjunction_more = w.Or ∷ conjunction_more
+
+abbrev pub expression_more : List Terminal
+expression_more = w.If ∷ disjunction_more
+
+-- with expressions behind commas
+abbrev pub inside_more : List Terminal
+inside_more = w.Comma ∷ (first ++ expression_more)
+
+abbrev pub argument_first : Bool → List Terminal
+argument_first false = first
+argument_first true = w.Name ∷ []
+
+-- ---- the tests of the readers
+
+first_by : (κ : Terminal) → holds_one first κ ≡ begins_expression κ
+first_by w.Name = refl
+first_by _ = refl
+
+pub first_is : (t : Token) → set first t ≡ among begins_expression t
+unfolding set
+first_is t = first_by (terminal t)
+
+part_by : (κ : Terminal) → holds_one part_first κ ≡ begins_part κ
+part_by w.Dot = refl
+part_by _ = refl
+
+part_is : (t : Token) → set part_first t ≡ among begins_part t
+unfolding set
+part_is t = part_by (terminal t)
+
+comparison_first_by : (κ : Terminal) → holds_one comparison_first κ ≡ begins_comparison κ
+comparison_first_by w.Equal = refl
+comparison_first_by _ = refl
+
+comparison_first_is : (t : Token) → set comparison_first t ≡ among begins_comparison t
+unfolding set
+comparison_first_is t = comparison_first_by (terminal t)
+
+argument_by : (s : Bool) (κ : Terminal) → holds_one (argument_first s) κ ≡ begins_argument s κ
+argument_by false κ = first_by κ
+argument_by true w.Name = refl
+argument_by true _ = refl
+
+argument_is : (s : Bool) (t : Token) → set (argument_first s) t ≡ among (begins_argument s) t
+unfolding set
+argument_is s t = argument_by s (terminal t)
+
+name_by : (κ : Terminal) (s : List ℕ) (l : ℕ) → holds_one (w.Name ∷ []) κ ≡ is_there (named κ s l)
+name_by w.Name s l = refl
+name_by _ s l = refl
+
+pub name_is : (t : Token) → set (w.Name ∷ []) t ≡ hits name_of t
+unfolding set
+name_is t = name_by (terminal t) t.text t.line
+
+text_by : (κ : Terminal) (s : List ℕ) → holds_one (w.Text ∷ []) κ ≡ is_there (quoted κ s)
+text_by w.Text s = refl
+text_by _ s = refl
+
+pub text_is : (t : Token) → set (w.Text ∷ []) t ≡ hits text_of t
+unfolding set
+text_is t = text_by (terminal t) t.text
+
+word_by : (κ : Terminal) (s : List ℕ) → is_there (spelled κ s) ≡ true → holds_one (w.Name ∷ []) κ ≡ true
+word_by w.Name s h = refl
+word_by _ s h = h
+
+pub word_within : (t : Token) → hits word_of t ≡ true → set (w.Name ∷ []) t ≡ true
+unfolding set
+word_within t h = word_by (terminal t) t.text h
+
+number_by : (κ : Terminal) (s : List ℕ) → is_there (counted κ s) ≡ true → holds_one (w.Int ∷ []) κ ≡ true
+number_by w.Int s h = refl
+number_by _ s h = h
+
+pub number_within : (t : Token) → hits number_of t ≡ true → set (w.Int ∷ []) t ≡ true
+unfolding set
+number_within t h = number_by (terminal t) t.text h
+
+abbrev constant_first : List Terminal
+constant_first = w.Nothing ∷ w.True ∷ w.False ∷ []
+
+constant_test : (κ : Terminal) → holds_one constant_first κ ≡ is_there (constant_by κ)
+constant_test w.Nothing = refl
+constant_test _ = refl
+
+constant_is : (t : Token) → set constant_first t ≡ hits constant_of t
+unfolding set
+constant_is t = constant_test (terminal t)
+
+abbrev plus_first : List Terminal
+plus_first = w.Plus ∷ w.Minus ∷ []
+
+plus_test : (κ : Terminal) → holds_one plus_first κ ≡ is_there (plus_by κ)
+plus_test w.Plus = refl
+plus_test _ = refl
+
+plus_is : (t : Token) → set plus_first t ≡ hits plus_of t
+unfolding set
+plus_is t = plus_test (terminal t)
+
+abbrev times_first : List Terminal
+times_first = w.Star ∷ w.Slashes ∷ w.Percent ∷ []
+
+times_test : (κ : Terminal) → holds_one times_first κ ≡ is_there (times_by κ)
+times_test w.Star = refl
+times_test _ = refl
+
+times_is : (t : Token) → set times_first t ≡ hits times_of t
+unfolding set
+times_is t = times_test (terminal t)
+
+abbrev compare_first : List Terminal
+compare_first = w.Equal ∷ w.NotEqual ∷ w.Less ∷ w.AtMost ∷ w.Greater ∷ w.AtLeast ∷ w.In ∷ []
+
+compare_test : (κ : Terminal) → holds_one compare_first κ ≡ is_there (comparison_by κ)
+compare_test w.In = refl
+compare_test _ = refl
+
+compare_is : (t : Token) → set compare_first t ≡ hits comparison_of t
+unfolding set
+compare_is t = compare_test (terminal t)
+
+-- ---- a token of each kind that carries a value
+
+pub name_there : name_of (example w.Name) ≡ Some (record { text = codes "path"; line = 0 })
+unfolding terminal
+name_there = refl
+
+word_there : word_of (example w.Name) ≡ Some (codes "path")
+unfolding terminal
+word_there = refl
+
+path_there : form.path_word (example w.Name) ≡ Some tt
+unfolding terminal
+path_there = refl
+
+text_there : text_of (example w.Text) ≡ Some []
+unfolding terminal
+text_there = refl
+
+number_there : number_of (example w.Int) ≡ Some (pos 0)
+unfolding terminal
+number_there = refl
+
+constant_there : constant_of (example w.Nothing) ≡ Some value.Nothing
+unfolding terminal
+constant_there = refl
+
+plus_there : plus_of (example w.Plus) ≡ Some Add
+unfolding terminal
+plus_there = refl
+
+times_there : times_of (example w.Star) ≡ Some Mul
+unfolding terminal
+times_there = refl
+
+compare_there : comparison_of (example w.Equal) ≡ Some compared.Eq
+unfolding terminal
+compare_there = refl
+
+path_by : (κ : Terminal) (s : List ℕ) → is_there (flag (spells (codes "path") κ s)) ≡ true → holds_one (w.Name ∷ []) κ ≡ true
+path_by w.Name s h = refl
+path_by _ s h = h
+
+path_within : (t : Token) → hits form.path_word t ≡ true → set (w.Name ∷ []) t ≡ true
+unfolding set
+path_within t h = path_by (terminal t) t.text h
+
+-- ---- what two tokens tell apart
+
+-- A name before `=` is read as an expression by itself. Or no level may open any more.
+abbrev pub Lone : ℕ → (ℕ → Level) → (ℕ → Readers) → Type 0
+Lone n X F =
+    ((t u : Token) (after : List Token) → hits name_of t ≡ true → hits (is w.Assign) u ≡ true → (x : Tree) × ((F n).expression (t ∷ u ∷ after) ≡ Ok (x, u ∷ after)))
+    ⊎ (((x : Tree) (ts rest : List Token) → (X n).expression x ts rest → ⊥) × ((ts : List Token) → (F n).expression ts ≡ Err (Deep ts)))
+
+pub there_some : {A : Type 0} (o : Option A) → is_there o ≡ true → (a : A) × (o ≡ Some a)
+there_some None h = absurd cc
+there_some (Some a) h = (a, refl)
+
+some_there : {A : Type 0} (o : Option A) (a : A) → o ≡ Some a → is_there o ≡ true
+some_there o a e = ap is_there e
+
+assign_behind : (rest : List Token) → sees (set (w.Assign ∷ expression_more)) rest ≡ false → sees (hits (is w.Assign)) rest ≡ false
+assign_behind [] h = refl
+assign_behind (t ∷ ts) h = sym (tests w.Assign t) ∙ (or_none (set (w.Assign ∷ []) t) (set expression_more t) (join_set true (w.Assign ∷ []) expression_more t ∙ h)).0
+
+more_behind : (rest : List Token) → sees (set (w.Assign ∷ expression_more)) rest ≡ false → sees (set expression_more) rest ≡ false
+more_behind [] h = refl
+more_behind (t ∷ ts) h = (or_none (set (w.Assign ∷ []) t) (set expression_more t) (join_set true (w.Assign ∷ []) expression_more t ∙ h)).1
+
+module _ (n : ℕ) (X : ℕ → Level) (F : ℕ → Readers) (lone : Lone n X F)
+    (expression_law : Lawful n (λ m. (X m).expression) (λ m. (F m).expression) (set first) (set expression_more) false)
+    (keyword_law : Lawful n (λ m. form.keyword m (X m)) (λ m. reader.read_keyword m (F m)) (set (w.Name ∷ [])) (set expression_more) false)
+    (positional_law : Lawful n (λ m. form.positional m (X m)) (λ m. reader.read_positional m (F m)) (set first) (set expression_more) false) where
+  keyword_pairs : (x : Argument) (ts rest : List Token) → form.keyword n (X n) x ts rest → pair (hits name_of) assigned ts ≡ true
+  keyword_pairs x [] rest h = absurd h.2
+  keyword_pairs x (t ∷ []) rest h = absurd (let one_more : [] ≡ h.1 = h.2.1 in subst (λ ts. one (is w.Assign) h.3.0 ts h.3.1) (sym one_more) h.3.2)
+  keyword_pairs x (t ∷ u ∷ ts) rest h =
+      let next : one (is w.Assign) h.3.0 (u ∷ ts) h.3.1 = subst (λ ts. one (is w.Assign) h.3.0 ts h.3.1) (sym h.2.1) h.3.2 in
+      rw (some_there (name_of t) h.0 h.2.0, some_there (is w.Assign u) h.3.0 next.0) refl
+
+  read_alone : (x : Tree) (t u : Token) (after rest : List Token) → (X n).expression x (t ∷ u ∷ after) rest → sees (set (w.Assign ∷ expression_more)) rest ≡ false → hits name_of t ≡ true → hits (is w.Assign) u ≡ true → ⊥
+  read_alone x t u after rest h m name sign =
+      elim lone [
+        | inl l ↦
+            let a = l t u after name sign in
+            let e : (F n).expression (t ∷ u ∷ after) ≡ Ok (x, rest) = expression_law.only x (t ∷ u ∷ after) rest h (more_behind rest m) in
+            let same : u ∷ after ≡ rest = got_rest a.0 x (u ∷ after) rest (sym a.1 ∙ e) in
+            let no : hits (is w.Assign) u ≡ false = ap (sees (hits (is w.Assign))) same ∙ assign_behind rest m in
+            cc
+        | inr l ↦ l.0 x _ _ h
+      ]
+
+  positional_alone : (x : Argument) (ts rest : List Token) → form.positional n (X n) x ts rest → sees (set (w.Assign ∷ expression_more)) rest ≡ false → pair (hits name_of) assigned ts ≡ false
+  positional_alone x [] rest h m = refl
+  positional_alone x (t ∷ []) rest h m = and_false (hits name_of t)
+  positional_alone x (t ∷ u ∷ after) rest h m =
+      let text : (X n).expression h.0 (t ∷ u ∷ after) rest = subst (λ r. (X n).expression h.0 (t ∷ u ∷ after) r) h.3.1 h.2 in
+      by_way (hits name_of t) (hits (is w.Assign) u) (λ name. elim (way (hits (is w.Assign) u)) [ inl sign ↦ absurd (read_alone h.0 t u after rest text m name sign) | inr sign ↦ sign ])
+
+  keyword_eager : (ts rest : List Token) → reader.read_keyword n (F n) ts ≡ Err (Refused rest) → pair (hits name_of) assigned ts ≡ true → length rest < length ts
+  unfolding reader.read_keyword
+  keyword_eager [] rest e p = absurd cc
+  keyword_eager (t ∷ ts) rest e p =
+      let name = there_some (name_of t) (and_both (hits name_of t) (assigned (head ts)) p).0 in
+      eager_by n (λ m. form.keyword m (X m)) (λ m. reader.read_keyword m (F m)) _ _ false keyword_law (t ∷ ts) rest e (t ∷ []) refl
+      (λ no. let other : reader.read_keyword n (F n) (t ∷ []) ≡ Err (Refused []) = rw name.1 refl in (let stop : [] ≡ t ∷ [] = stopped_rest Argument [] (t ∷ []) (sym other ∙ no) in cc))
+
+  positional_eager : (ts rest : List Token) → reader.read_positional n (F n) ts ≡ Err (Refused rest) → sees (hits name_of) ts ≡ true → length rest < length ts
+  unfolding reader.read_positional
+  positional_eager [] rest e p = absurd cc
+  positional_eager (t ∷ ts) rest e p =
+      elim lone [
+        | inl l ↦
+            let a = l t (example w.Assign) [] p (some_there (is w.Assign (example w.Assign)) tt (example_is w.Assign)) in
+            eager_by n (λ m. form.positional m (X m)) (λ m. reader.read_positional m (F m)) _ _ false positional_law (t ∷ ts) rest e (t ∷ example w.Assign ∷ []) refl
+            (λ no. let other : reader.read_positional n (F n) (t ∷ example w.Assign ∷ []) ≡ Ok (Positional a.0, example w.Assign ∷ []) = rw a.1 refl in (let bad : got {T = Token} (Positional a.0) (example w.Assign ∷ []) ≡ Err (Refused (t ∷ example w.Assign ∷ [])) = sym other ∙ no in cc))
+        | inr l ↦ absurd (let bad : (let r : Outcome Token Argument = Err (Deep (t ∷ ts)) in r) ≡ Err (Refused rest) = sym (rw (l.1 (t ∷ ts)) refl) ∙ e in cc)
+      ]
+
+  arguments_apart : Apart2 n (hits name_of) assigned (set (w.Assign ∷ expression_more)) (λ m. form.keyword m (X m)) (λ m. form.positional m (X m)) (λ m. reader.read_keyword m (F m)) (λ m. reader.read_positional m (F m))
+  arguments_apart = record { pairs = λ x ts rest h m. keyword_pairs x ts rest h; alone = positional_alone; eager_pair = keyword_eager; eager_alone = positional_eager }
+
+opening_empty : {A : Type 0} (o : Token → Option A) (m : ℕ) (a : A) (mid : List Token) → opening o m a [] mid → ⊥
+opening_empty o zero a mid h = h
+opening_empty o (suc m) a mid h = h
+
+module _ (n : ℕ) (X : ℕ → Level) (F : ℕ → Readers) (e : Tree)
+    (method_law : Lawful n (λ m. form.method m (X m) e) (λ m. reader.read_method m (F m) e) (set (w.Name ∷ [])) (set []) false) where
+  shut_path : (u : Unit {0}) (m : ℕ) (t : Token) (ts mid : List Token) → opening form.path_word m u (t ∷ ts) mid → (form.path_word t ≡ Some u) × (ts ≡ mid)
+  shut_path u zero t ts mid h = absurd h
+  shut_path u (suc m) t ts mid h = h
+
+  no_paren : (rest : List Token) → sees (set (w.LeftParen ∷ [])) rest ≡ false → no_call (head rest) ≡ true
+  no_paren [] h = refl
+  no_paren (t ∷ ts) h = ap not (sym (tests w.LeftParen t) ∙ h)
+
+  path_pairs : (x : Tree) (ts rest : List Token) → form.path n (X n) e x ts rest → sees (set (w.LeftParen ∷ [])) rest ≡ false → pair (hits form.path_word) no_call ts ≡ true
+  path_pairs x [] rest h m = absurd (opening_empty form.path_word n h.0 h.1 h.2)
+  path_pairs x (t ∷ ts) rest h m =
+      let o = shut_path h.0 n t ts h.1 h.2 in
+      let same : ts ≡ rest = o.1 ∙ h.3.1 in
+      rw (some_there (form.path_word t) h.0 o.0) (ap (λ (ts : List Token). no_call (head ts)) same ∙ no_paren rest m)
+
+  paren_behind : (u : Unit {0}) (m : ℕ) (ts mid : List Token) → opening (is w.LeftParen) m u ts mid → no_call (head ts) ≡ false
+  paren_behind u m [] mid h = absurd (opening_empty (is w.LeftParen) m u mid h)
+  paren_behind u zero (t ∷ ts) mid h = absurd h
+  paren_behind u (suc m) (t ∷ ts) mid h = ap not (some_there (is w.LeftParen t) u h.0)
+
+  method_alone : (x : Tree) (ts rest : List Token) → form.method n (X n) e x ts rest → pair (hits form.path_word) no_call ts ≡ false
+  method_alone x [] rest h = absurd h.2
+  method_alone x (t ∷ ts) rest h =
+      let next : no_call (head ts) ≡ false = ap (λ (ts : List Token). no_call (head ts)) h.2.1 ∙ paren_behind h.3.0 n h.1 h.3.1 h.3.2 in
+      rw next (and_false (hits form.path_word t))
+
+  path_reads : (m : ℕ) (t : Token) (ts rest : List Token) → hits form.path_word t ≡ true → reader.read_path m (F m) e (t ∷ ts) ≡ Err (Refused rest) → ⊥
+  unfolding reader.read_path
+  path_reads zero t ts rest h bad = let no : (let r : Outcome Token Tree = Err (Deep (t ∷ ts)) in r) ≡ Err (Refused rest) = sym (rw h refl) ∙ bad in cc
+  path_reads (suc m) t ts rest h bad =
+      let a = there_some (form.path_word t) h in
+      let no : got {T = Token} (node.Path e) ts ≡ Err (Refused rest) = sym (rw a.1 refl) ∙ bad in cc
+
+  path_eager : (ts rest : List Token) → reader.read_path n (F n) e ts ≡ Err (Refused rest) → pair (hits form.path_word) no_call ts ≡ true → length rest < length ts
+  path_eager [] rest bad p = absurd cc
+  path_eager (t ∷ ts) rest bad p = absurd (path_reads n t ts rest (and_both (hits form.path_word t) (no_call (head ts)) p).0 bad)
+
+  word_of_path : (t : Token) → hits form.path_word t ≡ true → (s : List ℕ) × (word_of t ≡ Some s)
+  word_of_path t h = by_kind (terminal t) t.text h
+    where
+      by_kind : (κ : Terminal) (s : List ℕ) → is_there (flag (spells (codes "path") κ s)) ≡ true → (r : List ℕ) × (spelled κ s ≡ Some r)
+      by_kind w.Name s h = (s, refl)
+      by_kind _ s h = absurd (let no : false ≡ true = h in cc)
+
+  method_stops : (m : ℕ) (t : Token) (s : List ℕ) → word_of t ≡ Some s → reader.read_method m (F m) e (t ∷ []) ≡ Err (Refused [])
+  unfolding reader.read_method
+  method_stops zero t s h = rw h refl
+  method_stops (suc m) t s h = rw h refl
+
+  method_eager : (ts rest : List Token) → reader.read_method n (F n) e ts ≡ Err (Refused rest) → sees (hits form.path_word) ts ≡ true → length rest < length ts
+  method_eager [] rest bad p = absurd cc
+  method_eager (t ∷ ts) rest bad p =
+      let a = word_of_path t p in
+      eager_by n (λ m. form.method m (X m) e) (λ m. reader.read_method m (F m) e) _ _ false method_law (t ∷ ts) rest bad (t ∷ []) refl
+      (λ no. let stop : [] ≡ t ∷ [] = stopped_rest Tree [] (t ∷ []) (sym (method_stops n t a.0 a.1) ∙ no) in cc)
+
+  dotted_apart : Apart2 n (hits form.path_word) no_call (set (w.LeftParen ∷ [])) (λ m. form.path m (X m) e) (λ m. form.method m (X m) e) (λ m. reader.read_path m (F m) e) (λ m. reader.read_method m (F m) e)
+  dotted_apart = record { pairs = path_pairs; alone = λ x ts rest h m. method_alone x ts rest h; eager_pair = path_eager; eager_alone = method_eager }
+
+-- ---- the rules of one level
+
+-- X are the forms of what stands one level further in, F their readers.
+module _ (U : ℕ → Type 0) (n : ℕ) (X : ℕ → Level) (F : ℕ → Readers)
+    (expression_step : Step U n (λ m. (X m).expression) (λ m. (F m).expression) first expression_more false)
+    (disjunction_inside : Step U n (λ m. (X m).disjunction) (λ m. (F m).disjunction) first disjunction_more false)
+    (inversion_inside : Step U n (λ m. (X m).inversion) (λ m. (F m).inversion) first comparison_more false)
+    (factor_inside : Step U n (λ m. (X m).factor) (λ m. (F m).factor) factor_first factor_more false)
+    (parts_inside : (e : Tree) → Step U n (λ m. (X m).parts e) (λ m. (F m).parts e) part_first parts_more true)
+    (lone : Lone n X F) where
+  abbrev Of : {A : Type 0} → (ℕ → Level → Form Token A) → (ℕ → Readers → Reader Token A) → List Terminal → List Terminal → Bool → Type 0
+  Of P f = Step U n (λ m. P m (X m)) (λ m. f m (F m))
+
+  pub expressions_step : Of form.expressions reader.read_expressions first inside_more true
+  unfolding reader.read_expressions
+  expressions_step =
+      wide refl refl (chooses (among begins_expression) first_is refl (then refl expression_step (λ e. then refl (commas (among begins_expression) first_is refl refl expression_step) (λ more. makes U n (e ∷ more)))) (makes U n []))
+
+  pub keyword_step : Of form.keyword reader.read_keyword (w.Name ∷ []) expression_more false
+  unfolding reader.read_keyword
+  keyword_step = then refl (carries U n name_of (w.Name ∷ []) (example w.Name) _ name_there (λ t h. name_is t ∙ h)) (λ name. then refl (takes U n w.Assign) (λ u. then refl expression_step (λ e. makes U n (Keyword name e))))
+
+  pub positional_step : Of form.positional reader.read_positional first expression_more false
+  unfolding reader.read_positional
+  positional_step = then refl expression_step (λ e. makes U n (Positional e))
+
+  pub argument_step : (s : Bool) → Of (λ m l. form.argument m l s) (λ m l. reader.read_argument m l s) (argument_first s) (w.Assign ∷ expression_more) false
+  argument_step false =
+      wide refl refl (picks (hits name_of) assigned (w.Assign ∷ expression_more) (λ x. arguments_apart n X F lone (expression_step.rule.law x) (keyword_step.rule.law x) (positional_step.rule.law x)) keyword_step positional_step)
+  argument_step true = wide refl refl keyword_step
+
+  argument_within : (s : Bool) → within (argument_first s) first ≡ true
+  argument_within true = refl
+  argument_within false = refl
+
+  pub more_arguments_step : (s : Bool) → Of (λ m l. form.more_arguments m l s) (λ m l. reader.read_more_arguments m l s) (w.Comma ∷ []) (w.Assign ∷ inside_more) true
+  more_arguments_step s = wide refl refl (commas_by (λ s. among (begins_argument s)) behind first argument_is argument_within refl argument_step s)
+
+  pub arguments_step : Of form.arguments reader.read_arguments first (w.Assign ∷ inside_more) true
+  unfolding reader.read_arguments
+  arguments_step =
+      wide refl refl (chooses (among begins_expression) first_is refl (then refl (argument_step false) (λ a. then refl (more_arguments_step (behind false a)) (λ more. makes U n (sorted (a ∷ more))))) (makes U n ([], [])))
+
+  pub call_step : (name : Name) → Of (λ m l. form.call m l name) (λ m l. reader.read_call m l name) (w.LeftParen ∷ []) [] false
+  unfolding reader.read_call
+  call_step name = then refl (opens_with U n w.LeftParen) (λ u. then refl arguments_step (λ all. then refl (takes U n w.RightParen) (λ v. makes U n (node.Call name all.0 all.1))))
+
+  pub named_step : Of form.named reader.read_named (w.Name ∷ []) (w.LeftParen ∷ []) false
+  unfolding reader.read_named
+  named_step = then refl (carries U n name_of (w.Name ∷ []) (example w.Name) _ name_there (λ t h. name_is t ∙ h)) (λ name. chooses (hits (is w.LeftParen)) (tests w.LeftParen) refl (call_step name) (makes U n (node.Name name)))
+
+  pub number_step : Of form.number reader.read_number (w.Int ∷ []) [] false
+  unfolding reader.read_number
+  number_step = then refl (carries U n number_of (w.Int ∷ []) (example w.Int) _ number_there number_within) (λ z. makes U n (node.Lit (value.Int z)))
+
+  pub text_step : Step U n (λ _. one text_of) (λ _. read_one text_of) (w.Text ∷ []) [] false
+  text_step = carries U n text_of (w.Text ∷ []) (example w.Text) _ text_there (λ t h. text_is t ∙ h)
+
+  pub texts_step : Of form.texts reader.read_texts (w.Text ∷ []) (w.Text ∷ []) false
+  unfolding reader.read_texts
+  texts_step = then refl text_step (λ t. then refl (each (hits text_of) text_is refl text_step) (λ more. makes U n (node.Lit (value.Text (joined (t ∷ more))))))
+
+  pub constant_step : Of form.constant reader.read_constant constant_first [] false
+  unfolding reader.read_constant
+  constant_step = then refl (carries U n constant_of constant_first (example w.Nothing) _ constant_there (λ t h. constant_is t ∙ h)) (λ v. makes U n (node.Lit v))
+
+  pub group_step : Of form.group reader.read_group (w.LeftParen ∷ []) [] false
+  unfolding reader.read_group
+  group_step = then refl (opens_with U n w.LeftParen) (λ u. then refl expression_step (λ e. then refl (takes U n w.RightParen) (λ v. makes U n e)))
+
+  pub condition_step : Of form.condition reader.read_condition (w.If ∷ []) (w.If ∷ disjunction_more) true
+  unfolding reader.read_condition
+  condition_step = wide refl refl (chooses (hits (is w.If)) (tests w.If) refl (then refl (takes U n w.If) (λ u. then refl disjunction_inside (λ e. makes U n (e ∷ [])))) (makes U n []))
+
+  pub comprehension_step : (e : Tree) → Of (λ m l. form.comprehension m l e) (λ m l. reader.read_comprehension m l e) (w.For ∷ []) expression_more false
+  unfolding reader.read_comprehension
+  comprehension_step e =
+      wide refl refl (then refl (takes U n w.For) (λ u. then refl (carries U n name_of (w.Name ∷ []) (example w.Name) _ name_there (λ t h. name_is t ∙ h))
+      (λ name. then refl (takes U n w.In) (λ v. then refl disjunction_inside (λ iterable. then refl condition_step (λ c. makes U n (node.Comp e name iterable c)))))))
+
+  pub list_behind_step : (e : Tree) → Of (λ m l. form.list_behind m l e) (λ m l. reader.read_list_behind m l e) (w.Comma ∷ []) inside_more true
+  unfolding reader.read_list_behind
+  list_behind_step e = wide refl refl (then refl (commas (among begins_expression) first_is refl refl expression_step) (λ more. makes U n (node.List (e ∷ more))))
+
+  pub items_step : Of form.items reader.read_items first (w.For ∷ inside_more) true
+  unfolding reader.read_items
+  items_step =
+      wide refl refl (chooses (among begins_expression) first_is refl (then refl expression_step (λ e. chooses (hits (is w.For)) (tests w.For) refl (comprehension_step e) (list_behind_step e))) (makes U n (node.List [])))
+
+  pub square_step : Of form.square reader.read_square (w.LeftSquare ∷ []) [] false
+  unfolding reader.read_square
+  square_step = then refl (opens_with U n w.LeftSquare) (λ u. then refl items_step (λ e. then refl (takes U n w.RightSquare) (λ v. makes U n e)))
+
+  pub pair_step : Of form.pair reader.read_pair first expression_more false
+  unfolding reader.read_pair
+  pair_step = then refl expression_step (λ key. then refl (takes U n w.Colon) (λ u. then refl expression_step (λ e. makes U n (key, e))))
+
+  pub pairs_step : Of form.pairs reader.read_pairs first inside_more true
+  unfolding reader.read_pairs
+  pairs_step = wide refl refl (chooses (among begins_expression) first_is refl (then refl pair_step (λ p. then refl (commas (among begins_expression) first_is refl refl pair_step) (λ more. makes U n (p ∷ more)))) (makes U n []))
+
+  pub curly_step : Of form.curly reader.read_curly (w.LeftCurly ∷ []) [] false
+  unfolding reader.read_curly
+  curly_step = then refl (opens_with U n w.LeftCurly) (λ u. then refl pairs_step (λ all. then refl (takes U n w.RightCurly) (λ v. makes U n (node.Dict all))))
+
+  pub atom_step : Of form.atom reader.read_atom atom_first atom_more false
+  unfolding reader.read_atom
+  atom_step =
+      wide refl refl (chooses (hits name_of) name_is refl named_step (chooses (hits (is w.Int)) (tests w.Int) refl number_step (chooses (hits text_of) text_is refl texts_step
+      (chooses (hits constant_of) constant_is refl constant_step (chooses (hits (is w.LeftParen)) (tests w.LeftParen) refl group_step (chooses (hits (is w.LeftSquare)) (tests w.LeftSquare) refl square_step curly_step))))))
+
+  pub index_step : (e : Tree) → Of (λ m l. form.index m l e) (λ m l. reader.read_index m l e) (w.LeftSquare ∷ []) [] false
+  unfolding reader.read_index
+  index_step e = then refl (opens_with U n w.LeftSquare) (λ u. then refl expression_step (λ i. then refl (takes U n w.RightSquare) (λ v. makes U n (node.Index e i))))
+
+  pub method_step : (e : Tree) → Of (λ m l. form.method m l e) (λ m l. reader.read_method m l e) (w.Name ∷ []) [] false
+  unfolding reader.read_method
+  method_step e =
+      then refl (carries U n word_of (w.Name ∷ []) (example w.Name) _ word_there word_within) (λ name. then refl (opens_with U n w.LeftParen) (λ u. then refl expressions_step (λ all. then refl (takes U n w.RightParen) (λ v. makes U n (node.Method e name all)))))
+
+  pub path_step : (e : Tree) → Of (λ m l. form.path m l e) (λ m l. reader.read_path m l e) (w.Name ∷ []) [] false
+  unfolding reader.read_path
+  path_step e = then refl (opened U n form.path_word (w.Name ∷ []) (example w.Name) tt path_there path_within) (λ u. makes U n (node.Path e))
+
+  pub dotted_step : (e : Tree) → Of (λ m l. form.dotted m l e) (λ m l. reader.read_dotted m l e) (w.Dot ∷ []) (w.LeftParen ∷ []) false
+  unfolding reader.read_dotted
+  dotted_step e =
+      wide refl refl (then refl (takes U n w.Dot) (λ u. picks (hits form.path_word) no_call (w.LeftParen ∷ []) (λ x. dotted_apart n X F e ((method_step e).rule.law x)) (path_step e) (method_step e)))
+
+  pub part_step : (e : Tree) → Of (λ m l. form.part m l e) (λ m l. reader.read_part m l e) part_first (w.LeftParen ∷ []) false
+  unfolding reader.read_part
+  part_step e = chooses (hits (is w.LeftSquare)) (tests w.LeftSquare) refl (index_step e) (dotted_step e)
+
+  pub parts_step : (e : Tree) → Of (λ m l. form.parts m l e) (λ m l. reader.read_parts m l e) part_first parts_more true
+  unfolding reader.read_parts
+  parts_step e = wide refl refl (chooses (among begins_part) part_is refl (then refl (part_step e) (λ p. parts_inside p)) (makes U n e))
+
+  pub postfix_step : Of form.postfix reader.read_postfix atom_first factor_more false
+  unfolding reader.read_postfix
+  postfix_step = wide refl refl (then refl atom_step (λ e. parts_step e))
+
+  pub negative_step : Of form.negative reader.read_negative (w.Minus ∷ []) factor_more false
+  unfolding reader.read_negative
+  negative_step = then refl (opens_with U n w.Minus) (λ u. then refl factor_inside (λ e. makes U n (node.Neg e)))
+
+  pub factor_step : Of form.factor reader.read_factor factor_first factor_more false
+  unfolding reader.read_factor
+  factor_step = wide refl refl (chooses (hits (is w.Minus)) (tests w.Minus) refl negative_step postfix_step)
+
+  pub times_step : Of form.times reader.read_times times_first factor_more false
+  unfolding reader.read_times
+  times_step = then refl (carries U n times_of times_first (example w.Star) _ times_there (λ t h. times_is t ∙ h)) (λ operator. then refl factor_step (λ e. makes U n (operator, e)))
+
+  pub term_step : Of form.term reader.read_term factor_first term_more false
+  unfolding reader.read_term
+  term_step = wide refl refl (then refl factor_step (λ e. then refl (each (hits times_of) times_is refl times_step) (λ more. makes U n (chained e more))))
+
+  pub plus_step : Of form.plus reader.read_plus plus_first term_more false
+  unfolding reader.read_plus
+  plus_step = then refl (carries U n plus_of plus_first (example w.Plus) _ plus_there (λ t h. plus_is t ∙ h)) (λ operator. then refl term_step (λ e. makes U n (operator, e)))
+
+  pub sum_step : Of form.sum reader.read_sum factor_first sum_more false
+  unfolding reader.read_sum
+  sum_step = wide refl refl (then refl term_step (λ e. then refl (each (hits plus_of) plus_is refl plus_step) (λ more. makes U n (chained e more))))
+
+  pub not_in_step : Of form.not_in reader.read_not_in (w.Not ∷ []) [] false
+  unfolding reader.read_not_in
+  not_in_step = then refl (takes U n w.Not) (λ u. then refl (takes U n w.In) (λ v. makes U n compared.NotIn))
+
+  pub comparing_step : Of form.comparing reader.read_comparing comparison_first [] false
+  unfolding reader.read_comparing
+  comparing_step = chooses (hits comparison_of) compare_is refl (carries U n comparison_of compare_first (example w.Equal) _ compare_there (λ t h. compare_is t ∙ h)) not_in_step
+
+  pub comparison_step : Of form.comparison reader.read_comparison factor_first comparison_more false
+  unfolding reader.read_comparison
+  comparison_step =
+      wide refl refl (then refl sum_step (λ left. chooses (among begins_comparison) comparison_first_is refl (then refl comparing_step (λ operator. then refl sum_step (λ right. makes U n (node.Compare operator left right)))) (makes U n left)))
+
+  pub negation_step : Of form.negation reader.read_negation (w.Not ∷ []) comparison_more false
+  unfolding reader.read_negation
+  negation_step = then refl (opens_with U n w.Not) (λ u. then refl inversion_inside (λ e. makes U n (node.Not e)))
+
+  pub inversion_step : Of form.inversion reader.read_inversion first comparison_more false
+  unfolding reader.read_inversion
+  inversion_step = wide refl refl (chooses (hits (is w.Not)) (tests w.Not) refl negation_step comparison_step)
+
+  pub and_step : Of form.and_operand reader.read_and (w.And ∷ []) comparison_more false
+  unfolding reader.read_and
+  and_step = then refl (takes U n w.And) (λ u. inversion_step)
+
+  pub conjunction_step : Of form.conjunction reader.read_conjunction first conjunction_more false
+  unfolding reader.read_conjunction
+  conjunction_step = wide refl refl (then refl inversion_step (λ e. then refl (each (hits (is w.And)) (tests w.And) refl and_step) (λ more. makes U n (anded e more))))
+
+  pub or_step : Of form.or_operand reader.read_or (w.Or ∷ []) conjunction_more false
+  unfolding reader.read_or
+  or_step = then refl (takes U n w.Or) (λ u. conjunction_step)
+
+  pub disjunction_step : Of form.disjunction reader.read_disjunction first disjunction_more false
+  unfolding reader.read_disjunction
+  disjunction_step = wide refl refl (then refl conjunction_step (λ e. then refl (each (hits (is w.Or)) (tests w.Or) refl or_step) (λ more. makes U n (ored e more))))
+
+  pub conditional_step : Of form.conditional reader.read_conditional first expression_more false
+  unfolding reader.read_conditional
+  conditional_step =
+      wide refl refl (then refl disjunction_step (λ e. chooses (hits (is w.If)) (tests w.If) refl (then refl (takes U n w.If) (λ u. then refl disjunction_step
+      (λ test. then refl (opens_with U n w.Else) (λ v. then refl expression_step (λ other. makes U n (node.Cond test e other)))))) (makes U n e)))

@@ -1,0 +1,17 @@
+pub mod Laws
+pub mod More
+pub mod Many
+pub mod Tail
+pub mod Depth
+pub mod Rules
+pub mod Whole
+pub mod Loops
+pub mod Flat
+pub mod Halts
+pub mod Bound
+pub mod Pick
+pub mod Sets
+pub mod Samples
+pub mod Steps
+pub mod Expressions
+pub mod Nested

@@ -1,0 +1,176 @@
+-- Expressions are lawful at every level.
+use Rattle.std.proofs.Common.{◌≡◌, ℕ, zero, suc, true, false, List, [], ◌∷◌, Some, refl, inl, inr, ◌∙◌, ◌&&◌, codes}
+use Rattle.rd_syntax.specs.declared.token.Token.{Token}
+use Rattle.rd_parse.specs.declared.terminal.Terminal.TheVariants as w
+use Rattle.rd_parse.specs.declared.tree.Name.{Name}
+use Rattle.rd_parse.specs.declared.tree.Node.TheVariants as node
+use Rattle.rd_parse.specs.Form.{Form}
+use Rattle.rd_parse.specs.Reader.{hits, sees}
+use Rattle.rd_parse.specs.Terminal.{is, name_of}
+use Rattle.rd_parse.specs.Expressions as form
+use Rattle.rd_parse.specs.Expressions.{Tree, Level, level}
+use Rattle.rd_parse.specs.Reading as reader
+use Rattle.rd_parse.specs.Reading.{Readers, inner}
+use Rattle.rd_parse.proofs.Laws.{Grows, Completes, Lawful}
+use Rattle.rd_parse.proofs.Depth.{down_zero, down_suc}
+use Rattle.rd_parse.proofs.Rules.{Up, base}
+use Rattle.rd_parse.proofs.Sets.{set, sets_apart}
+use Rattle.rd_parse.proofs.Samples.{example}
+use Rattle.rd_parse.proofs.Steps.{Step, tests}
+use Rattle.rd_parse.proofs.Expressions as rule
+use Rattle.rd_parse.proofs.Expressions.{first, factor_first, part_first, factor_more, comparison_more, disjunction_more, expression_more, parts_more, Lone, name_there, there_some}
+
+-- ---- a name alone
+
+module _ (n : ℕ) (in_ : Level) (name : Name) (t : Token) (rest : List Token) (is_name : name_of t ≡ Some name) where
+  lone_postfix : form.postfix n in_ (node.Name name) (t ∷ rest) rest
+  lone_postfix = (node.Name name, rest, inl (name, rest, (is_name, refl), inr (refl, refl)), inr (refl, refl))
+
+  lone_factor : form.factor n in_ (node.Name name) (t ∷ rest) rest
+  lone_factor = inr lone_postfix
+
+  lone_sum : form.sum n in_ (node.Name name) (t ∷ rest) rest
+  lone_sum = (node.Name name, rest, (node.Name name, rest, lone_factor, ([], rest, refl, (refl, refl))), ([], rest, refl, (refl, refl)))
+
+  lone_inversion : form.inversion n in_ (node.Name name) (t ∷ rest) rest
+  lone_inversion = inr (node.Name name, rest, lone_sum, inr (refl, refl))
+
+  lone_disjunction : form.disjunction n in_ (node.Name name) (t ∷ rest) rest
+  lone_disjunction = (node.Name name, rest, (node.Name name, rest, lone_inversion, ([], rest, refl, (refl, refl))), ([], rest, refl, (refl, refl)))
+
+  pub lone_expression : form.conditional n in_ (node.Name name) (t ∷ rest) rest
+  lone_expression = (node.Name name, rest, lone_disjunction, inr (refl, refl))
+
+abbrev some_name : Name
+some_name = record { text = codes "path"; line = 0 }
+
+abbrev AtName : (ℕ → Form Token Tree) → Type 0
+AtName P = Completes P []
+
+completes_by : (P : ℕ → Form Token Tree) → ((k : List Token) → P 1 (node.Name some_name) (example w.Name ∷ k) k) → Completes P []
+completes_by P h = record { depth = 1; by_ = example w.Name ∷ []; value = node.Name some_name; gives = h }
+
+expression_some : Completes (λ m. (level m).expression) []
+unfolding level
+expression_some = completes_by (λ m. (level m).expression) (λ k. lone_expression 0 (level 0) some_name (example w.Name) k name_there)
+
+disjunction_some : Completes (λ m. (level m).disjunction) []
+unfolding level
+disjunction_some = completes_by (λ m. (level m).disjunction) (λ k. lone_disjunction 0 (level 0) some_name (example w.Name) k name_there)
+
+inversion_some : Completes (λ m. (level m).inversion) []
+unfolding level
+inversion_some = completes_by (λ m. (level m).inversion) (λ k. lone_inversion 0 (level 0) some_name (example w.Name) k name_there)
+
+factor_some : Completes (λ m. (level m).factor) []
+unfolding level
+factor_some = completes_by (λ m. (level m).factor) (λ k. lone_factor 0 (level 0) some_name (example w.Name) k name_there)
+
+parts_some : (e : Tree) → Completes (λ m. (level m).parts e) []
+unfolding level
+parts_some e = record { depth = 1; by_ = []; value = e; gives = λ k. inr (refl, refl) }
+
+-- ---- the laws of what stands one level further in
+
+pub record Inside (n : ℕ) : Type 0 where
+  pub expression : Lawful n (λ m. (level m).expression) (λ m. (inner m).expression) (set first) (set expression_more) false
+  pub disjunction : Lawful n (λ m. (level m).disjunction) (λ m. (inner m).disjunction) (set first) (set disjunction_more) false
+  pub inversion : Lawful n (λ m. (level m).inversion) (λ m. (inner m).inversion) (set first) (set comparison_more) false
+  pub factor : Lawful n (λ m. (level m).factor) (λ m. (inner m).factor) (set factor_first) (set factor_more) false
+  pub parts : (e : Tree) → Lawful n (λ m. (level m).parts e) (λ m. (inner m).parts e) (set part_first) (set parts_more) true
+
+pub record Ups (j : ℕ) : Type 0 where
+  pub expression : Up j (λ m. (level m).expression)
+  pub disjunction : Up j (λ m. (level m).disjunction)
+  pub inversion : Up j (λ m. (level m).inversion)
+  pub factor : Up j (λ m. (level m).factor)
+  pub parts : (e : Tree) → Up j (λ m. (level m).parts e)
+
+module _ (n : ℕ) (l : Inside n) (lone : Lone n level inner) where
+  expression_inside : Step Ups n (λ m. (level m).expression) (λ m. (inner m).expression) first expression_more false
+  expression_inside = record { rule = base n _ _ _ _ false (λ j u. u.expression) l.expression }
+
+  disjunction_inside : Step Ups n (λ m. (level m).disjunction) (λ m. (inner m).disjunction) first disjunction_more false
+  disjunction_inside = record { rule = base n _ _ _ _ false (λ j u. u.disjunction) l.disjunction }
+
+  inversion_inside : Step Ups n (λ m. (level m).inversion) (λ m. (inner m).inversion) first comparison_more false
+  inversion_inside = record { rule = base n _ _ _ _ false (λ j u. u.inversion) l.inversion }
+
+  factor_inside : Step Ups n (λ m. (level m).factor) (λ m. (inner m).factor) factor_first factor_more false
+  factor_inside = record { rule = base n _ _ _ _ false (λ j u. u.factor) l.factor }
+
+  parts_inside : (e : Tree) → Step Ups n (λ m. (level m).parts e) (λ m. (inner m).parts e) part_first parts_more true
+  parts_inside e = record { rule = base n _ _ _ _ true (λ j u. u.parts e) (l.parts e) }
+
+  pub at_conditional : Step Ups n (λ m. form.conditional m (level m)) (λ m. reader.read_conditional m (inner m)) first expression_more false
+  at_conditional = rule.conditional_step Ups n level inner expression_inside disjunction_inside inversion_inside factor_inside parts_inside lone
+
+  pub at_disjunction : Step Ups n (λ m. form.disjunction m (level m)) (λ m. reader.read_disjunction m (inner m)) first disjunction_more false
+  at_disjunction = rule.disjunction_step Ups n level inner expression_inside disjunction_inside inversion_inside factor_inside parts_inside lone
+
+  pub at_inversion : Step Ups n (λ m. form.inversion m (level m)) (λ m. reader.read_inversion m (inner m)) first comparison_more false
+  at_inversion = rule.inversion_step Ups n level inner expression_inside disjunction_inside inversion_inside factor_inside parts_inside lone
+
+  pub at_factor : Step Ups n (λ m. form.factor m (level m)) (λ m. reader.read_factor m (inner m)) factor_first factor_more false
+  at_factor = rule.factor_step Ups n level inner expression_inside disjunction_inside inversion_inside factor_inside parts_inside lone
+
+  pub at_parts : (e : Tree) → Step Ups n (λ m. form.parts m (level m) e) (λ m. reader.read_parts m (inner m) e) part_first parts_more true
+  at_parts e = rule.parts_step Ups n level inner expression_inside disjunction_inside inversion_inside factor_inside parts_inside lone e
+
+inside_zero : Inside 0
+unfolding level inner
+inside_zero = record {
+  expression = down_zero (λ m. (level m).expression) (λ m. (inner m).expression) _ _ false (λ a ts rest h. h) (λ ts. refl) expression_some;
+  disjunction = down_zero (λ m. (level m).disjunction) (λ m. (inner m).disjunction) _ _ false (λ a ts rest h. h) (λ ts. refl) disjunction_some;
+  inversion = down_zero (λ m. (level m).inversion) (λ m. (inner m).inversion) _ _ false (λ a ts rest h. h) (λ ts. refl) inversion_some;
+  factor = down_zero (λ m. (level m).factor) (λ m. (inner m).factor) _ _ false (λ a ts rest h. h) (λ ts. refl) factor_some;
+  parts = λ e. down_zero (λ m. (level m).parts e) (λ m. (inner m).parts e) _ _ true (λ a ts rest h. h) (λ ts. refl) (parts_some e);
+}
+
+lone_zero : Lone 0 level inner
+unfolding level inner
+lone_zero = inr (λ x ts rest h. h, λ ts. refl)
+
+ups : (j : ℕ) → Ups j
+unfolding level
+ups zero = record { expression = λ a ts rest h. absurd h; disjunction = λ a ts rest h. absurd h; inversion = λ a ts rest h. absurd h; factor = λ a ts rest h. absurd h; parts = λ e a ts rest h. absurd h }
+ups (suc j) = record {
+  expression = (at_conditional 0 inside_zero lone_zero).rule.up j (ups j);
+  disjunction = (at_disjunction 0 inside_zero lone_zero).rule.up j (ups j);
+  inversion = (at_inversion 0 inside_zero lone_zero).rule.up j (ups j);
+  factor = (at_factor 0 inside_zero lone_zero).rule.up j (ups j);
+  parts = λ e. (at_parts 0 inside_zero lone_zero e).rule.up j (ups j);
+}
+
+inside_suc : (n : ℕ) → Inside n → Lone n level inner → Inside (suc n)
+unfolding level inner
+inside_suc n l lone = record {
+  expression = down_suc n (λ m. (level m).expression) (λ m. (inner m).expression) _ _ false ((at_conditional n l lone).rule.law ups);
+  disjunction = down_suc n (λ m. (level m).disjunction) (λ m. (inner m).disjunction) _ _ false ((at_disjunction n l lone).rule.law ups);
+  inversion = down_suc n (λ m. (level m).inversion) (λ m. (inner m).inversion) _ _ false ((at_inversion n l lone).rule.law ups);
+  factor = down_suc n (λ m. (level m).factor) (λ m. (inner m).factor) _ _ false ((at_factor n l lone).rule.law ups);
+  parts = λ e. down_suc n (λ m. (level m).parts e) (λ m. (inner m).parts e) _ _ true ((at_parts n l lone e).rule.law ups);
+}
+
+assign_ends : (u : Token) (after : List Token) → hits (is w.Assign) u ≡ true → sees (set expression_more) (u ∷ after) ≡ false
+assign_ends u after sign = let apart : (set (w.Assign ∷ []) u && set expression_more u) ≡ false = sets_apart (w.Assign ∷ []) expression_more refl u in rw (tests w.Assign u ∙ sign) at apart
+
+lone_suc : (n : ℕ) → Inside n → Lone n level inner → Lone (suc n) level inner
+unfolding inner
+lone_suc n l lone = inl (λ t u after name sign.
+    let a = there_some (name_of t) name in
+    (node.Name a.0, ((at_conditional n l lone).rule.law ups).only (node.Name a.0) (t ∷ u ∷ after) (u ∷ after) (lone_expression n (level n) a.0 t (u ∷ after) a.1) (assign_ends u after sign)))
+
+at_level : (n : ℕ) → Inside n × Lone n level inner
+at_level zero = (inside_zero, lone_zero)
+at_level (suc n) = let d = at_level n in (inside_suc n d.0 d.1, lone_suc n d.0 d.1)
+
+-- ---- expressions
+
+pub expression_lawful : (n : ℕ) → Lawful n form.expression reader.read_expression (set first) (set expression_more) false
+unfolding form.expression
+expression_lawful n = let d = at_level n in (at_conditional n d.0 d.1).rule.law ups
+
+pub expression_grows : Grows form.expression
+unfolding form.expression
+expression_grows n = (at_conditional 0 inside_zero lone_zero).rule.up n (ups n)

@@ -1,0 +1,161 @@
+-- The laws of each way to build a form, over sets of tokens that are lists.
+use Rattle.std.proofs.Common.{◌≡◌, ℕ, Bool, true, false, ◌&&◌, ◌||◌, List, [], ◌∷◌, ◌++◌, Option, Some, refl, ap, sym, subst, ◌∙◌, inl, inr}
+use Rattle.rd_syntax.specs.declared.token.Token.{Token}
+use Rattle.rd_parse.specs.declared.terminal.Terminal.{Terminal}
+use Rattle.rd_parse.specs.declared.terminal.Terminal.TheVariants as w
+use Rattle.rd_parse.specs.Form.{Form, one, yields, bound, either, many, opening, tail, more}
+use Rattle.rd_parse.specs.Reader.{Reader, sees, hits, ◌>>=◌, pure, read_one, read_either, read_pick, read_many, read_opening, read_tail, read_more}
+use Rattle.rd_parse.specs.Terminal.{terminal, is}
+use Rattle.rd_parse.proofs.Laws.{join}
+use Rattle.rd_parse.proofs.Rules.{Rule, Up, token, opens, value, binds, choice, repeats, relabel}
+use Rattle.rd_parse.proofs.Tail.{tail_lawful}
+use Rattle.rd_parse.proofs.Pick.{Apart2, pick_lawful}
+use Rattle.rd_parse.proofs.Sets.{holds_same, holds_flag, set, within, disjoint, within_holds, sets_apart, either_of, join_set}
+use Rattle.rd_parse.proofs.Samples.{example, example_is}
+
+pub record Step {A : Type 0} (U : ℕ → Type 0) (n : ℕ) (P : ℕ → Form Token A) (f : ℕ → Reader Token A) (first more : List Terminal) (null : Bool) : Type 0 where
+  pub rule : Rule U n P f (set first) (set more) null
+
+sees_within : (s t : Token → Bool) → ((k : Token) → s k ≡ true → t k ≡ true) → (ts : List Token) → sees s ts ≡ true → sees t ts ≡ true
+sees_within s t h [] e = e
+sees_within s t h (k ∷ ts) e = h k e
+
+sees_without : (s t : Token → Bool) → ((k : Token) → s k ≡ true → t k ≡ true) → (ts : List Token) → sees t ts ≡ false → sees s ts ≡ false
+sees_without s t h [] e = e
+sees_without s t h (k ∷ ts) e = by_test (s k) refl
+  where
+    by_test : (b : Bool) → b ≡ s k → s k ≡ false
+    by_test true d = absurd (let y : t k ≡ true = h k (sym d) in let n : t k ≡ false = e in cc)
+    by_test false d = sym d
+
+-- larger sets
+pub widen : {A : Type 0} {U : ℕ → Type 0} {n : ℕ} {P : ℕ → Form Token A} {f : ℕ → Reader Token A} {fp mp fq mq : Token → Bool} {np : Bool}
+    → ((k : Token) → fp k ≡ true → fq k ≡ true) → ((k : Token) → mp k ≡ true → mq k ≡ true) → Rule U n P f fp mp np → Rule U n P f fq mq np
+widen {fp = fp} {mp = mp} {fq = fq} {mq = mq} a b p = record {
+  up = p.up;
+  law = λ x. let l = p.law x in record {
+    starts = λ v ts rest h. elim (l.starts v ts rest h) [ inl s ↦ inl (sees_within fp fq a ts s) | inr e ↦ inr e ];
+    shrinks = l.shrinks;
+    only = λ v ts rest h m. l.only v ts rest h (sees_without mp mq b rest m);
+    found = l.found;
+    refused = l.refused;
+    some = l.some;
+  };
+}
+
+pub wide : {A : Type 0} {U : ℕ → Type 0} {n : ℕ} {P : ℕ → Form Token A} {f : ℕ → Reader Token A} {fp mp fq mq : List Terminal} {np : Bool}
+    → within fp fq ≡ true → within mp mq ≡ true → Step U n P f fp mp np → Step U n P f fq mq np
+unfolding set
+wide {fp = fp} {mp = mp} {fq = fq} {mq = mq} a b p = record { rule = widen (λ k h. within_holds fp fq (terminal k) a h) (λ k h. within_holds mp mq (terminal k) b h) p.rule }
+
+nowhere : (k : Token) → (λ (t : Token). false) k ≡ true → set [] k ≡ true
+unfolding set
+nowhere k h = h
+
+-- a token that carries a value
+pub carries : {A : Type 0} (U : ℕ → Type 0) (n : ℕ) (o : Token → Option A) (ks : List Terminal) (t : Token) (a : A) → o t ≡ Some a → ((k : Token) → hits o k ≡ true → set ks k ≡ true)
+    → Step U n (λ _. one o) (λ _. read_one o) ks [] false
+carries U n o ks t a is h = record { rule = widen h nowhere (token U n o t a is) }
+
+is_one : (κ : Terminal) (k : Token) → hits (is κ) k ≡ true → set (κ ∷ []) k ≡ true
+unfolding set
+is_one κ k h = holds_same (terminal k) κ h
+
+-- this terminal
+pub takes : (U : ℕ → Type 0) (n : ℕ) (κ : Terminal) → Step U n (λ _. one (is κ)) (λ _. read_one (is κ)) (κ ∷ []) [] false
+takes U n κ = carries U n (is κ) (κ ∷ []) (example κ) tt (example_is κ) (is_one κ)
+
+-- a token that opens a level
+pub opened : {A : Type 0} (U : ℕ → Type 0) (n : ℕ) (o : Token → Option A) (ks : List Terminal) (t : Token) (a : A) → o t ≡ Some a → ((k : Token) → hits o k ≡ true → set ks k ≡ true)
+    → Step U n (opening o) (read_opening o) ks [] false
+opened U n o ks t a is h = record { rule = widen h nowhere (opens U n o t a is) }
+
+pub opens_with : (U : ℕ → Type 0) (n : ℕ) (κ : Terminal) → Step U n (opening (is κ)) (read_opening (is κ)) (κ ∷ []) [] false
+opens_with U n κ = opened U n (is κ) (κ ∷ []) (example κ) tt (example_is κ) (is_one κ)
+
+-- this value, of no token
+pub makes : {A : Type 0} (U : ℕ → Type 0) (n : ℕ) (a : A) → Step U n (λ _. yields a) (λ _. pure a) [] [] true
+makes U n a = record { rule = widen nowhere nowhere (value U n a) }
+
+-- one after the other
+pub then : {A B : Type 0} {U : ℕ → Type 0} {n : ℕ} {P : ℕ → Form Token A} {Q : A → ℕ → Form Token B} {f : ℕ → Reader Token A} {g : A → ℕ → Reader Token B} {fp mp fq mq : List Terminal} {np nq : Bool}
+    → disjoint fq mp ≡ true → Step U n P f fp mp np → ((a : A) → Step U n (Q a) (g a) fq mq nq)
+    → Step U n (λ m. bound (P m) (λ a. Q a m)) (λ m. f m >>= λ a. g a m) (either_of np fp fq) (either_of nq mq mp) (np && nq)
+then {fp = fp} {mp = mp} {fq = fq} {mq = mq} {np = np} {nq = nq} apart p q =
+    record { rule = relabel (λ t. join_set np fp fq t) (λ t. join_set nq mq mp t) (binds p.rule (λ a. (q a).rule) (sets_apart fq mp apart)) }
+
+-- one or the other, by the first token
+pub chooses : {A : Type 0} {U : ℕ → Type 0} {n : ℕ} {P Q : ℕ → Form Token A} {f g : ℕ → Reader Token A} {fp mp fq mq : List Terminal} {nq : Bool}
+    (s : Token → Bool) → ((t : Token) → set fp t ≡ s t) → disjoint fq fp ≡ true → Step U n P f fp mp false → Step U n Q g fq mq nq
+    → Step U n (λ m. either (P m) (Q m)) (λ m. read_either s (f m) (g m)) (fp ++ fq) (either_of nq (mp ++ mq) fp) nq
+chooses {U = U} {n = n} {P = P} {Q = Q} {f = f} {g = g} {fp = fp} {mp = mp} {fq = fq} {mq = mq} {nq = nq} s match_ apart p q =
+    let same : set fp ≡ s = λ i t. match_ t i in
+    record {
+      rule = subst (λ (s : Token → Bool). Rule U n (λ m. either (P m) (Q m)) (λ m. read_either s (f m) (g m)) (set (fp ++ fq)) (set (either_of nq (mp ++ mq) fp)) nq) same
+          (relabel (λ t. join_set true fp fq t) (λ t. more t nq) (choice p.rule q.rule (sets_apart fq fp apart)));
+    }
+  where
+    more : (t : Token) (b : Bool) → join b (join true (set mp) (set mq)) (set fp) t ≡ set (either_of b (mp ++ mq) fp) t
+    more t true = ap (λ b. b || set fp t) (join_set true mp mq t) ∙ join_set true (mp ++ mq) fp t
+    more t false = join_set true mp mq t
+
+-- any number of them
+pub each : {A : Type 0} {U : ℕ → Type 0} {n : ℕ} {P : ℕ → Form Token A} {f : ℕ → Reader Token A} {fp mp : List Terminal}
+    (s : Token → Bool) → ((t : Token) → set fp t ≡ s t) → disjoint fp mp ≡ true → Step U n P f fp mp false → Step U n (λ m. many (P m)) (λ m. read_many s (f m)) fp (fp ++ mp) true
+each {U = U} {n = n} {P = P} {f = f} {fp = fp} {mp = mp} s match_ apart p =
+    let same : set fp ≡ s = λ i t. match_ t i in
+    record {
+      rule = subst (λ (s : Token → Bool). Rule U n (λ m. many (P m)) (λ m. read_many s (f m)) (set fp) (set (fp ++ mp)) true) same (relabel (λ t. refl) (λ t. join_set true fp mp t) (repeats p.rule (sets_apart fp mp apart)));
+    }
+
+-- the test for one terminal
+pub tests : (κ : Terminal) (t : Token) → set (κ ∷ []) t ≡ hits (is κ) t
+unfolding set
+tests κ t = sym (holds_flag (terminal t) κ)
+
+tail_up : {S C A : Type 0} (c : Token → Option C) (P : S → ℕ → Form Token A) (step : S → A → S) (j : ℕ) → ((s : S) → Up j (P s)) → (s : S) → Up j (λ m. tail c (λ s. P s m) step s)
+tail_up c P step j u s [] ts rest h = h
+tail_up c P step j u s (a ∷ more) ts rest h = (h.0, h.1, h.2, h.3, u s a h.1 h.3 h.4, tail_up c P step j u (step s a) more h.3 rest h.5)
+
+comma_is : (t : Token) → hits (is w.Comma) t ≡ set (w.Comma ∷ []) t
+comma_is t = sym (tests w.Comma t)
+
+comma_apart : (mp : List Terminal) → disjoint (w.Comma ∷ []) mp ≡ true → (t : Token) → (hits (is w.Comma) t && set mp t) ≡ false
+comma_apart mp apart t = rw (comma_is t) (sets_apart (w.Comma ∷ []) mp apart t)
+
+comma_more : (all mp : List Terminal) (t : Token) → join true (hits (is w.Comma)) (join true (set all) (set mp)) t ≡ set (w.Comma ∷ (all ++ mp)) t
+comma_more all mp t = rw (comma_is t, join_set true all mp t) (join_set true (w.Comma ∷ []) (all ++ mp) t)
+
+-- those of a set are among those of a larger one
+tested : (s : Token → Bool) (fp all : List Terminal) → ((t : Token) → set fp t ≡ s t) → within fp all ≡ true → (t : Token) → s t ≡ true → set all t ≡ true
+unfolding set
+tested s fp all match_ inside t h = within_holds fp all (terminal t) inside (match_ t ∙ h)
+
+-- each behind a comma, where what came before decides what may come
+pub commas_by : {S A : Type 0} {U : ℕ → Type 0} {n : ℕ} {P : S → ℕ → Form Token A} {f : S → ℕ → Reader Token A} {fp : S → List Terminal} {mp : List Terminal}
+    (test : S → Token → Bool) (step : S → A → S) (all : List Terminal) → ((s : S) (t : Token) → set (fp s) t ≡ test s t) → ((s : S) → within (fp s) all ≡ true) → disjoint (w.Comma ∷ []) mp ≡ true
+    → ((s : S) → Step U n (P s) (f s) (fp s) mp false) → (s : S)
+    → Step U n (λ m. tail (is w.Comma) (λ s. P s m) step s) (λ m. read_tail (is w.Comma) test (λ s. f s m) step s) (w.Comma ∷ []) (w.Comma ∷ (all ++ mp)) true
+commas_by {U = U} {n = n} {P = P} {f = f} {fp = fp} {mp = mp} test step all match_ inside apart p s = record {
+  rule = relabel comma_is (comma_more all mp) (record {
+    law = λ x. tail_lawful n (is w.Comma) (example w.Comma) tt (example_is w.Comma) P f test (set all) (set mp) step (λ s t h. tested (test s) (fp s) all (match_ s) (inside s) t h)
+        (comma_apart mp apart) (λ s j. (p s).rule.up j (x j)) (λ s. (relabel (match_ s) (λ t. refl) (p s).rule).law x) s;
+    up = λ j h. tail_up (is w.Comma) P step j (λ s. (p s).rule.up j h) s;
+  });
+}
+
+-- each behind a comma
+pub commas : {A : Type 0} {U : ℕ → Type 0} {n : ℕ} {P : ℕ → Form Token A} {f : ℕ → Reader Token A} {fp mp : List Terminal}
+    (s : Token → Bool) → ((t : Token) → set fp t ≡ s t) → within fp fp ≡ true → disjoint (w.Comma ∷ []) mp ≡ true → Step U n P f fp mp false → Step U n (λ m. more (is w.Comma) (P m)) (λ m. read_more (is w.Comma) s (f m)) (w.Comma ∷ []) (w.Comma ∷ (fp ++ mp)) true
+commas {A = A} {P = P} {f = f} {fp = fp} s match_ inside apart p = commas_by {P = λ (u : Unit {0}). P} {f = λ (u : Unit {0}). f} {fp = λ (u : Unit {0}). fp} (λ u. s) (λ (u : Unit {0}) (a : A). u) fp (λ u. match_) (λ u. inside) apart (λ u. p) tt
+
+-- one or the other, by the first two tokens
+pub picks : {A : Type 0} {U : ℕ → Type 0} {n : ℕ} {P Q : ℕ → Form Token A} {f g : ℕ → Reader Token A} {fp mp fq mq : List Terminal}
+    (a : Token → Bool) (b : Option Token → Bool) (behind : List Terminal) → (((j : ℕ) → U j) → Apart2 n a b (set behind) P Q f g) → Step U n P f fp mp false → Step U n Q g fq mq false
+    → Step U n (λ m. either (P m) (Q m)) (λ m. read_pick a b (f m) (g m)) (fp ++ fq) (behind ++ (mp ++ mq)) false
+picks {U = U} {n = n} {P = P} {Q = Q} {f = f} {g = g} {fp = fp} {mp = mp} {fq = fq} {mq = mq} a b behind apart p q = record {
+  rule = relabel (λ t. join_set true fp fq t) (λ t. ap (λ b. set behind t || b) (join_set true mp mq t) ∙ join_set true behind (mp ++ mq) t) (record {
+    law = λ x. pick_lawful n a b (set behind) P Q f g (set fp) (set mp) (set fq) (set mq) (p.rule.law x) (q.rule.law x) (apart x);
+    up = λ j u v ts rest h. elim h [ inl x ↦ inl (p.rule.up j u v ts rest x) | inr x ↦ inr (q.rule.up j u v ts rest x) ];
+  });
+}

@@ -1,0 +1,9 @@
+//! From tokens to trees.
+#![tactic(auto)]
+
+mod halt;
+mod take;
+mod terminal;
+pub mod tree;
+
+pub use halt::Halt;
