@@ -13,6 +13,8 @@ pub mod limits;
 pub mod operators;
 pub mod repr;
 pub mod same;
+#[cfg(test)]
+mod same_tests;
 pub mod signature;
 mod size;
 #[cfg(test)]
