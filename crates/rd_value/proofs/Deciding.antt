@@ -35,8 +35,8 @@ decided : {A : Type 0} (E : A → A → Bool) (a : A) → Tells E a → E a a �
 decided E a h w b = (h b, λ p. subst (λ c. E a c ≡ true) p w)
 
 -- what the answer r of a call of `==` says
-pub answered : {P : Type 0} (r e : Bool) → r ≡ e → Decides e P → Decides r P
-answered r e h d = (λ t. d.0 (sym h ∙ t), λ p. h ∙ d.1 p)
+pub answered : {P : Type 0} {r e : Bool} → r ≡ e → Decides e P → Decides r P
+answered h d = (λ t. d.0 (sym h ∙ t), λ p. h ∙ d.1 p)
 
 tells_file : (f g : FileValue) → file_eq.ghosts.eq f g ≡ true → f ≡ g
 tells_file f g e = search rules

@@ -4,10 +4,10 @@ ghost use Rattle.std.specs.Prelude.{◌≡◌, true};
 ghost use Rattle.std.specs.Bool.{Decides};
 
 use crate::class::Class;
-use crate::expr::{Lazy, OpKind};
+use crate::expr::{Expr, Lazy, OpKind};
 use crate::failure::{Failure, Outcome};
 use crate::signature::{Parameter, Signature};
-use crate::value::{Datum, ErrorValue, FileValue};
+use crate::value::{Datum, ErrorValue, FileValue, Value};
 
 /// `==` of each type decides equality.
 #[tactic(auto, using(crate::proofs::Deciding::decisions))]
@@ -23,3 +23,31 @@ pub fn equality_decides()
     ensures parameter { (a b : Parameter) → Decides (⟦<Parameter as PartialEq>⟧.eq a b) (a ≡ b) }
     ensures signature { (a b : Signature) → Decides (⟦<Signature as PartialEq>⟧.eq a b) (a ≡ b) }
 {}
+
+/// Whether two values are one and the same.
+pub fn same_value(value: &Value, other: &Value) -> bool
+    ensures { Decides result (value.now ≡ other.now) }
+{
+    *value == *other
+}
+
+/// Whether two expressions are one and the same.
+pub fn same_expr(expr: &Expr, other: &Expr) -> bool
+    ensures { Decides result (expr.now ≡ other.now) }
+{
+    *expr == *other
+}
+
+/// Whether two outcomes are one and the same.
+pub fn same_outcome(outcome: &Outcome, other: &Outcome) -> bool
+    ensures { Decides result (outcome.now ≡ other.now) }
+{
+    *outcome == *other
+}
+
+/// Whether two signatures are one and the same.
+pub fn same_signature(signature: &Signature, other: &Signature) -> bool
+    ensures { Decides result (signature.now ≡ other.now) }
+{
+    *signature == *other
+}
