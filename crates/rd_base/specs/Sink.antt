@@ -1,5 +1,5 @@
 -- What is written to a sink.
-use Rattle.std.specs.Prelude.{ℕ, ◌<◌, ◌≤◌, Bool, List, ◌++◌, length}
+use Rattle.std.specs.Prelude.{ℕ, ◌<◌, ◌≤◌, Bool, if◌then◌else◌, min, List, ◌++◌, length}
 use Rattle.std.specs.declared.option.Option.{Option}
 use Rattle.std.specs.Option.{option_map}
 use Rattle.rd_base.specs.Faults.{Planned}
@@ -19,3 +19,7 @@ pub record Kept : Type 0 where
   -- whether each write takes one byte
   pub narrow : Bool
   pub faults : Planned
+
+-- how many bytes of a piece one write takes
+abbrev pub taken : Bool → List ℕ → ℕ
+taken narrow piece = if narrow then min 1 (length piece) else length piece

@@ -2,8 +2,8 @@ ghost use Rattle.std.specs.Prelude.{◌≡◌, ◌≤◌, ℕ, List, [], take, t
 ghost use Rattle.std.specs.declared.option.Option.{Option};
 ghost use Rattle.std.specs.declared.option.Option.TheVariants.{Some};
 ghost use Rattle.rd_base.specs.Causes.{Rose};
-ghost use Rattle.rd_base.specs.Faults.{none_planned, failing_at, fails_next};
-ghost use Rattle.rd_base.specs.Sink.{added, IsFront};
+ghost use Rattle.rd_base.specs.Faults.{none_planned, failing_at, fails_next, with_call, with_fault};
+ghost use Rattle.rd_base.specs.Sink.{added, taken, IsFront};
 
 use crate::faults::Faults;
 use crate::memory::OutOfMemory;
@@ -94,6 +94,10 @@ impl Sink for MemorySink {
         ensures cause { OnErr result (Rose self.old.faults.count self.new.faults.count) }
         ensures never_falls { self.old.faults.count ≤ self.new.faults.count }
         ensures planned { fails_next self.old.faults ≡ true → IsErr result }
+        ensures taken { IfOk result (λ n. n ≡ taken self.old.narrow bytes.now) }
+        ensures stays { self.new.narrow ≡ self.old.narrow }
+        ensures counted { OnOk result (self.new.faults ≡ with_call self.old.faults) }
+        ensures failed { OnErr result (self.new.faults ≡ with_fault (with_call self.old.faults)) }
     {
         if self.faults.begin_call() {
             return Err(SinkFailed);

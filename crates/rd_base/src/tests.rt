@@ -5,7 +5,6 @@ use crate::{
 use std::alloc::Global;
 use std::hash::{DefaultHasher, Hash, Hasher};
 use std::process::Abort;
-use std::test::Fail;
 
 fn path(alloc: Global, text: &str) -> Result<Path, OutOfMemory> {
     match Path::new(alloc, text) {
@@ -51,8 +50,10 @@ fn copied<T: Copies>(alloc: Global, value: &T) -> Result<T, OutOfMemory> {
     value.copy(alloc)
 }
 
-#[test]
-fn paths(rt: HostRuntime) -> Result<(), OutOfMemory> {
+// A test makes a second try where memory ran out: where one allocation is made to fail, the second finds what the first
+// one wanted.
+
+fn path_table(rt: &impl Abort, alloc: Global) -> Result<(), OutOfMemory> {
     for (text, want) in [
         ("a", true),
         ("a/b c/d.txt", true),
@@ -81,17 +82,22 @@ fn paths(rt: HostRuntime) -> Result<(), OutOfMemory> {
         ("\x1f", false),
         ("\x7f", false),
     ] {
-        let lawful = is_lawful(&rt, rt.alloc(), text)?;
+        let lawful = is_lawful(rt, alloc, text)?;
         assert_eq!(rt; lawful, want, "at {text:?}");
     }
     Ok(())
 }
 
 #[test]
-fn compared_paths(rt: HostRuntime) -> Result<(), OutOfMemory> {
-    let first = path(rt.alloc(), "a/b")?;
-    let same = copied(rt.alloc(), &first)?;
-    let other = path(rt.alloc(), "a/c")?;
+fn paths(rt: HostRuntime) -> Result<(), OutOfMemory> {
+    let alloc = rt.alloc();
+    path_table(&rt, alloc).or_else(|_| path_table(&rt, alloc))
+}
+
+fn two_paths(rt: &impl Abort, alloc: Global) -> Result<(), OutOfMemory> {
+    let first = path(alloc, "a/b")?;
+    let same = copied(alloc, &first)?;
+    let other = path(alloc, "a/c")?;
     assert!(rt; first == same);
     assert!(rt; first != other);
     assert_eq!(rt; hashed(&first), hashed(&same));
@@ -100,33 +106,46 @@ fn compared_paths(rt: HostRuntime) -> Result<(), OutOfMemory> {
 }
 
 #[test]
-fn longest_paths(rt: HostRuntime) -> Result<(), OutOfMemory> {
+fn compared_paths(rt: HostRuntime) -> Result<(), OutOfMemory> {
+    let alloc = rt.alloc();
+    two_paths(&rt, alloc).or_else(|_| two_paths(&rt, alloc))
+}
+
+fn long_paths(rt: &impl Abort, alloc: Global) -> Result<(), OutOfMemory> {
     for (part, count, want) in [
         ('a', 1024, true),
         ('a', 1025, false),
         ('é', 512, true),
         ('é', 513, false),
     ] {
-        let text = repeated(rt.alloc(), part, count)?;
-        let lawful = is_lawful(&rt, rt.alloc(), text.as_str())?;
+        let text = repeated(alloc, part, count)?;
+        let lawful = is_lawful(rt, alloc, text.as_str())?;
         assert_eq!(rt; lawful, want, "at {part} {count}");
     }
     Ok(())
 }
 
 #[test]
-fn sinks(rt: HostRuntime) -> Result<(), Fail> {
-    let mut sink = MemorySink::new(rt.alloc());
-    sink.fail_at(rt.alloc(), 2)?;
-    assert_eq!(rt; sink.write(b"ab"), Ok(2));
+fn longest_paths(rt: HostRuntime) -> Result<(), OutOfMemory> {
+    let alloc = rt.alloc();
+    long_paths(&rt, alloc).or_else(|_| long_paths(&rt, alloc))
+}
+
+fn sink_writes(rt: &impl Abort, alloc: Global) -> Result<(), OutOfMemory> {
+    let mut sink = MemorySink::new(alloc);
+    sink.fail_at(alloc, 2)?;
+    let first = sink.write(b"ab").map_err(|_| OutOfMemory)?;
+    assert_eq!(rt; first, 2);
     assert_eq!(rt; sink.write(b"x"), Err(SinkFailed));
     assert_eq!(rt; sink.bytes(), b"ab".as_slice());
     assert_eq!(rt; sink.write(b""), Ok(0));
     sink.narrow();
-    assert_eq!(rt; sink.write(b"cd"), Ok(1));
-    assert_eq!(rt; sink.write(b"e"), Ok(1));
+    for piece in [b"cd".as_slice(), b"e"] {
+        let taken = sink.write(piece).map_err(|_| OutOfMemory)?;
+        assert_eq!(rt; taken, 1);
+    }
     assert_eq!(rt; sink.write(b""), Ok(0));
-    let shown = format!(in rt.alloc(); "{sink:?}")?;
+    let shown = format!(in alloc; "{sink:?}")?;
     let want = "MemorySink { bytes: [97, 98, 99, 101], is_narrow: true, \
                 faults: Faults { calls: 6, failing: [2], count: 1 } }";
     assert_eq!(rt; shown.as_str(), want);
@@ -134,20 +153,31 @@ fn sinks(rt: HostRuntime) -> Result<(), Fail> {
 }
 
 #[test]
-fn faults(rt: HostRuntime) -> Result<(), Fail> {
-    let mut faults = Faults::new(rt.alloc());
+fn sinks(rt: HostRuntime) -> Result<(), OutOfMemory> {
+    let alloc = rt.alloc();
+    sink_writes(&rt, alloc).or_else(|_| sink_writes(&rt, alloc))
+}
+
+fn planned_faults(rt: &impl Abort, alloc: Global) -> Result<(), OutOfMemory> {
+    let mut faults = Faults::new(alloc);
     faults.fail_at(3)?;
     faults.fail_at(1)?;
     for want in [true, false, true, false] {
         assert_eq!(rt; faults.begin_call(), want);
     }
     faults.add();
-    let shown = format!(in rt.alloc(); "{faults:?}")?;
+    let shown = format!(in alloc; "{faults:?}")?;
     assert_eq!(rt;
         shown.as_str(),
         "Faults { calls: 4, failing: [3, 1], count: 3 }"
     );
     Ok(())
+}
+
+#[test]
+fn faults(rt: HostRuntime) -> Result<(), OutOfMemory> {
+    let alloc = rt.alloc();
+    planned_faults(&rt, alloc).or_else(|_| planned_faults(&rt, alloc))
 }
 
 #[test]
@@ -165,9 +195,8 @@ fn clocks(rt: HostRuntime) {
     }
 }
 
-#[test]
-fn statuses(rt: HostRuntime) -> Result<(), OutOfMemory> {
-    let path = path(rt.alloc(), "a")?;
+fn status_numbers(rt: &impl Abort, alloc: Global) -> Result<(), OutOfMemory> {
+    let path = path(alloc, "a")?;
     for (status, want) in [
         (Status::Done, 0),
         (Status::WorkflowError, 1),
@@ -178,7 +207,7 @@ fn statuses(rt: HostRuntime) -> Result<(), OutOfMemory> {
         (Status::OutOfMemory, 6),
         (Status::TooLarge, 7),
         (Status::WriteConflict { path }, 8),
-        (Status::Collided(collision(rt.alloc())), 9),
+        (Status::Collided(collision(alloc)), 9),
         (Status::OutputFailed, 10),
         (Status::NotFound, 11),
         (
@@ -194,8 +223,12 @@ fn statuses(rt: HostRuntime) -> Result<(), OutOfMemory> {
 }
 
 #[test]
-fn items(rt: HostRuntime) -> Result<(), OutOfMemory> {
+fn statuses(rt: HostRuntime) -> Result<(), OutOfMemory> {
     let alloc = rt.alloc();
+    status_numbers(&rt, alloc).or_else(|_| status_numbers(&rt, alloc))
+}
+
+fn shared_items(rt: &impl Abort, alloc: Global) -> Result<(), OutOfMemory> {
     let mut first = Bytes::new(alloc);
     assert_eq!(rt; first.len(), 0);
     first.push(alloc, 1)?;
@@ -221,8 +254,12 @@ fn items(rt: HostRuntime) -> Result<(), OutOfMemory> {
 }
 
 #[test]
-fn texts(rt: HostRuntime) -> Result<(), OutOfMemory> {
+fn items(rt: HostRuntime) -> Result<(), OutOfMemory> {
     let alloc = rt.alloc();
+    shared_items(&rt, alloc).or_else(|_| shared_items(&rt, alloc))
+}
+
+fn shared_texts(rt: &impl Abort, alloc: Global) -> Result<(), OutOfMemory> {
     let first = Text::from_str(alloc, "é")?;
     let pair = copied(alloc, &(first, Digest([5; 32])))?;
     assert_eq!(rt; pair.0.as_str(), "é");
@@ -237,8 +274,12 @@ fn texts(rt: HostRuntime) -> Result<(), OutOfMemory> {
 }
 
 #[test]
-fn boxes(rt: HostRuntime) -> Result<(), OutOfMemory> {
+fn texts(rt: HostRuntime) -> Result<(), OutOfMemory> {
     let alloc = rt.alloc();
+    shared_texts(&rt, alloc).or_else(|_| shared_texts(&rt, alloc))
+}
+
+fn shared_boxes(rt: &impl Abort, alloc: Global) -> Result<(), OutOfMemory> {
     let first = Boxed::new(alloc, 3_u8)?;
     let second = copied(alloc, &first)?;
     drop(first);
@@ -249,4 +290,10 @@ fn boxes(rt: HostRuntime) -> Result<(), OutOfMemory> {
     assert!(rt; second != other);
     assert_eq!(rt; hashed(&second), hashed(&same));
     Ok(())
+}
+
+#[test]
+fn boxes(rt: HostRuntime) -> Result<(), OutOfMemory> {
+    let alloc = rt.alloc();
+    shared_boxes(&rt, alloc).or_else(|_| shared_boxes(&rt, alloc))
 }

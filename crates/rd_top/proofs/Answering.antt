@@ -34,17 +34,12 @@ use Rattle.rd_top.specs.Running.{own}
 use Rattle.rd_top.specs.Shown.{value_line, failure_line}
 use Rattle.rd_top.specs.Printed.{root, IsShown, ShowsFresh, PrintedIsFresh, outcome_line, outcome_status, line_of, status_of}
 use Rattle.rd_top.specs.Answered.{erased, OfTask, OfModule, OfText, OfFiles, Comes, Written, Answered, Completes}
-use Rattle.rd_top.proofs.Erased.{answer_with, root_gives, erased_line}
+use Rattle.rd_top.proofs.Erased.{root_gives, erased_line}
 use Rattle.rd_top.proofs.ErasedCounts.{fits_with, fits_without}
 use Rattle.rd_top.proofs.Fitting.{not_deep}
 use Rattle.rd_top.proofs.Sources.{one_module}
 
 -- ---- the task that was called
-
-same_erased : (y : Answer ModelValue) → answer_with y ≡ erased y
-same_erased (Gives v) = refl
-same_erased (Failed f) = refl
-same_erased Deep = refl
 
 -- the call as the program makes it
 pub is_root : {t task : List ℕ} {ps : List (Lazy FileValue)} {ks : List (List ℕ × Lazy FileValue)} → t ≡ task → ps ≡ [] → ks ≡ [] → lazy.Call t ps ks ≡ root task
@@ -65,7 +60,7 @@ module _ (m : Module) (task : List ℕ) (there : find task m.functions ≢ None)
   pub of_outcome : (o : Outcome) → Fits own m (root task) → FreshGives own m (root task) (answer_of o) → OfModule m task (ending.Outcome o)
   of_outcome o fits gives =
       let y = root_gives m task (answer_of o) (not_deep o) gives in
-      inr (there, (fits_without m task fits, (y.0, y.1.0, y.1.1 ∙ same_erased y.0)))
+      inr (there, (fits_without m task fits, (y.0, y.1.0, y.1.1)))
 
   pub of_too_large : (Fits own m (root task) → ⊥) → OfModule m task ending.TooLarge
   of_too_large large = inr (there, λ fits. large (fits_with m task fits))
@@ -294,19 +289,6 @@ module _ (words : List (List ℕ)) (told : Option Files) (before behind : Option
   complete (s, text, inr memory, inl w) files file task txt m is asks at r k there within fits no_disk no_output = inr (w.0 ∙ memory.0)
   complete (s, text, inl (e, comes, s_is, text_is), inl w) files file task txt m is asks at r k there within fits no_disk no_output =
       ends e comes (w.0 ∙ s_is) files file task txt m is asks at r k there within fits no_disk no_output
-
-not_output : (e : Ending) → status_of e ≢ status.OutputFailed
-not_output (ending.Outcome (outcome.Value v)) d = absurd cc
-not_output (ending.Outcome (outcome.Failed f)) d = absurd cc
-not_output ending.WordsRefused d = absurd cc
-not_output ending.SourceRefused d = absurd cc
-not_output ending.DiskUnavailable d = absurd cc
-not_output ending.TooLarge d = absurd cc
-not_output (ending.NotFound w) d = absurd cc
-
--- no command comes to a failed output
-pub never_output : (words : List (List ℕ)) (told : Option Files) (e : Ending) (s : Status) → s ≡ status_of e → s ≢ status.OutputFailed
-never_output words told e s is d = not_output e (sym is ∙ d)
 
 -- a printed status is the answer's, unless the output failed
 pub same_disk : (s ended : Status) (text : List ℕ) (before behind : Option (List ℕ)) → Written s text ended before behind → ended ≡ status.DiskUnavailable → s ≡ status.DiskUnavailable

@@ -11,6 +11,7 @@ use Rattle.rd_value.specs.Erase.{with_files, with_files_expr, erase}
 use Rattle.rd_value.proofs.Erased.{repr_with_files}
 use Rattle.rd_top.specs.declared.tree.Function.{Function}
 use Rattle.rd_top.specs.declared.tree.Module.{Module}
+use Rattle.rd_top.specs.Answered.{answer_map, erased}
 use Rattle.rd_top.specs.Bind.{bind}
 use Rattle.rd_top.specs.Body.{Reduction, Reduces, Fails, body}
 use Rattle.rd_top.specs.Fits.{FreshGives}
@@ -20,12 +21,6 @@ use Rattle.rd_top.specs.Shown.{line, value_line}
 use Rattle.rd_top.proofs.Deeper.{deeper}
 use Rattle.rd_top.proofs.ErasedLayers.{call_with_files, layer_with, out_with_files_expr}
 use Rattle.rd_top.proofs.BodyErased.{reduction_with, args_with, through, bind_with, body_with}
-
--- the answer with something else in place of its value
-abbrev pub answer_map : {A B : Type 0} → (A → B) → Answer A → Answer B
-answer_map k (Gives a) = Gives (k a)
-answer_map k (Failed f) = Failed f
-answer_map k Deep = Deep
 
 join_with : {A B : Type 0} (k : A → B) (a : Answer A) (as' : Answer (List A)) → join prepended (answer_map k a) (answer_map (map k) as') ≡ answer_map (map k) (join prepended a as')
 join_with k (Gives a) (Gives as') = refl
@@ -86,12 +81,8 @@ module _ {F G : Type 0} (h : F → G) where
         rw (out_with_files_expr h e)
         (step_with ev ev' (run_with n) (calling (through h file) m ev) (calling file m ev') (λ task. call_with ev ev' (run_with n) file (find task m.functions) task) (out-Lazy F e))
 
--- the answer as the program gives it
-abbrev pub answer_with : Answer ModelValue → Answer (Datum FileValue)
-answer_with = answer_map erase
-
 module _ (m : Module) (task : List ℕ) where
-  pub root_same : (n : ℕ) → fresh own m n (lazy.Call task [] []) ≡ answer_with (fresh file_of m n (lazy.Call task [] []))
+  pub root_same : (n : ℕ) → fresh own m n (lazy.Call task [] []) ≡ erased (fresh file_of m n (lazy.Call task [] []))
   unfolding fresh
   root_same n = ap (λ e. (run own m n e).answer) (sym (call_with_files file_of task [])) ∙ run_with file_of own m n (lazy.Call task [] [])
 
@@ -101,11 +92,11 @@ module _ (m : Module) (task : List ℕ) where
 
   -- What the program's evaluation gives, the model's does.
   pub root_gives : (x : Answer (Datum FileValue)) → x ≢ Deep → FreshGives own m (lazy.Call task [] []) x
-      → (y : Answer ModelValue) × (FreshGives file_of m (lazy.Call task [] []) y × (x ≡ answer_with y))
+      → (y : Answer ModelValue) × (FreshGives file_of m (lazy.Call task [] []) y × (x ≡ erased y))
   root_gives x ends g =
       let y = fresh file_of m g.0 (lazy.Call task [] []) in
-      let same : x ≡ answer_with y = sym (g.1 g.0 (le_refl g.0)) ∙ root_same g.0 in
-      (y, (stays g.0 (lazy.Call task [] []) (λ d. ends (same ∙ ap answer_with d)), same))
+      let same : x ≡ erased y = sym (g.1 g.0 (le_refl g.0)) ∙ root_same g.0 in
+      (y, (stays g.0 (lazy.Call task [] []) (λ d. ends (same ∙ ap erased d)), same))
 
 pub erased_line : (v : ModelValue) → value_line own (erase v) ≡ value_line file_of v
 erased_line v = ap line (repr_with_files file_of own v)

@@ -20,7 +20,8 @@ use Rattle.rd_top.specs.Running.{own}
 use Rattle.rd_top.proofs.Evaluated.{count-append, count_under}
 use Rattle.rd_top.proofs.ErasedLayers.{call_with_files, layer_with, out_with_files_expr}
 use Rattle.rd_top.proofs.BodyErased.{reduction_with, args_with, through, bind_with, body_with}
-use Rattle.rd_top.proofs.Erased.{answer_map, Evaluators, parts_with, run_with, root_same}
+use Rattle.rd_top.specs.Answered.{answer_map}
+use Rattle.rd_top.proofs.Erased.{Evaluators, parts_with, run_with, root_same}
 
 module _ {F G : Type 0} (h : F → G) where
   seconds_with : (ps : List (Datum F × ℕ)) → seconds (map (with_files_key h) ps) ≡ seconds ps

@@ -12,7 +12,7 @@ use Rattle.rd_value.specs.declared.expr.Lazy.TheOpen.{Lazy-F}
 use Rattle.rd_value.specs.declared.expr.Lazy.TheFolds.{fold-roll-Lazy, fold_out-Lazy, map-Lazy}
 use Rattle.rd_value.specs.Erase.{with_file, with_files, with_file_expr, with_files_expr}
 use Rattle.rd_value.proofs.Erased.{int_with_files, text_with_files}
-use Rattle.rd_value.proofs.ErasedOperators.{out_with_files}
+use Rattle.rd_value.proofs.ErasedCompare.{out_with_files}
 use Rattle.rd_top.specs.declared.tree.Literal.{Literal}
 use Rattle.rd_top.specs.declared.tree.Literal.TheVariants as literal
 use Rattle.rd_top.specs.Body.{literal_value, making_at, making}

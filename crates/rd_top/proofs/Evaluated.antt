@@ -21,7 +21,8 @@ use Rattle.rd_top.specs.declared.tree.Function.{Function}
 use Rattle.rd_top.specs.declared.tree.Module.{Module}
 use Rattle.rd_top.specs.declared.body.Reduction.{Reduction}
 use Rattle.rd_top.specs.declared.body.Reduction.TheVariants as reduced
-use Rattle.rd_top.specs.Errors.{in_task, raised}
+use Rattle.rd_top.specs.Errors.{in_task}
+use Rattle.rd_value.specs.Raise.{raised}
 use Rattle.rd_top.specs.Bind.{bind}
 use Rattle.rd_top.specs.Body.{body}
 use Rattle.rd_top.specs.Running.{own, reduction_of}

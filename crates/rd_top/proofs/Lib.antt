@@ -3,7 +3,6 @@ pub mod Asked
 pub mod Binding
 pub mod BodyErased
 pub mod Chain
-pub mod Cut
 pub mod Deeper
 pub mod Depth
 pub mod Erased

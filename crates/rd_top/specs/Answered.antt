@@ -26,11 +26,15 @@ use Rattle.rd_top.specs.Evaluating.{answer_of}
 use Rattle.rd_top.specs.Printed.{root, line_of, status_of}
 use Rattle.rd_top.specs.Shown.{line}
 
+-- an answer with something else in place of its value
+abbrev pub answer_map : {A B : Type 0} → (A → B) → Answer A → Answer B
+answer_map k (fresh.Gives a) = fresh.Gives (k a)
+answer_map k (fresh.Failed f) = fresh.Failed f
+answer_map k fresh.Deep = fresh.Deep
+
 -- an answer with the digests of its files in place of their texts
 abbrev pub erased : Answer ModelValue → Answer (Datum FileValue)
-erased (fresh.Gives v) = fresh.Gives (erase v)
-erased (fresh.Failed f) = fresh.Failed f
-erased fresh.Deep = fresh.Deep
+erased = answer_map erase
 
 -- the outcome is fresh evaluation's, as the program holds it
 abbrev pub IsFresh : Module → List ℕ → Outcome → Type 0

@@ -6,7 +6,7 @@ use Rattle.rd_value.specs.declared.value.FileValue.{FileValue}
 use Rattle.rd_value.specs.declared.value.Datum.{Datum}
 use Rattle.rd_value.specs.Limits.{are_within}
 use Rattle.rd_value.specs.Operators.{value_limit}
-use Rattle.rd_top.specs.Errors.{raised}
+use Rattle.rd_value.specs.Raise.{raised}
 
 abbrev pub too_many : ErrorValue
 too_many = raised TypeError (codes "too many arguments")

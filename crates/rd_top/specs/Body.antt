@@ -23,7 +23,8 @@ use Rattle.rd_top.specs.declared.tree.Node.TheFolds.{fold-Node}
 use Rattle.rd_top.specs.declared.tree.Statement.{Statement}
 use Rattle.rd_top.specs.declared.tree.Statement.TheVariants.{Return}
 use Rattle.rd_top.specs.declared.tree.Function.{Function}
-use Rattle.rd_top.specs.Errors.{raised, steps_limit, in_task}
+use Rattle.rd_top.specs.Errors.{steps_limit, in_task}
+use Rattle.rd_value.specs.Raise.{raised}
 
 -- the most steps of a body
 abbrev pub most_steps : ℕ

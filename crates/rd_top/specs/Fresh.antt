@@ -10,7 +10,8 @@ use Rattle.rd_value.specs.declared.expr.Lazy.TheOpen.{Lazy-F}
 use Rattle.rd_value.specs.declared.failure.Failure.{Failure}
 use Rattle.rd_top.specs.declared.tree.Function.{Function}
 use Rattle.rd_top.specs.declared.tree.Module.{Module}
-use Rattle.rd_top.specs.Errors.{raised, in_task}
+use Rattle.rd_top.specs.Errors.{in_task}
+use Rattle.rd_value.specs.Raise.{raised}
 use Rattle.rd_top.specs.Bind.{bind}
 use Rattle.rd_top.specs.Body.{Reduction, Reduces, Fails, body}
 

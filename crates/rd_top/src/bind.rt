@@ -5,8 +5,8 @@ ghost use Rattle.rd_top.specs.Bind as spec;
 ghost use Rattle.rd_top.specs.Running.{own};
 
 use crate::lists::at;
-use crate::raise::raised;
 use rd_base::{OutOfMemory, Text};
+use rd_value::raise::raised;
 use rd_value::class::Class;
 use rd_value::limits::are_within;
 use rd_value::value::{ErrorValue, Values};

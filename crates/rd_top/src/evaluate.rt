@@ -4,6 +4,7 @@ ghost use Rattle.std.specs.Prelude.{◌≡◌, ◌≢◌, ◌≤◌, ℕ, List, 
 ghost use Rattle.std.specs.Option.{option_copied};
 ghost use Rattle.rd_top.specs.Body.{body};
 ghost use Rattle.rd_top.specs.Errors as errors;
+ghost use Rattle.rd_value.specs.Raise as raise;
 ghost use Rattle.rd_top.specs.Fits as fits;
 ghost use Rattle.rd_top.specs.Fresh as fresh;
 ghost use Rattle.rd_top.specs.Evaluating.{Evaluates, answer_of, answers_of, ahead, at_depth, call_out, values_out, body_out, met_out};
@@ -17,9 +18,9 @@ ghost use Rattle.rd_top.specs.Running.{own};
 use crate::bind::bind;
 use crate::body::{Reduction, run_body};
 use crate::lazies::lazies;
-use crate::raise::raised;
 use crate::tree::{Function, Module};
 use rd_base::{Copies, Items, OutOfMemory, Text};
+use rd_value::raise::raised;
 use rd_value::class::Class;
 use rd_value::expr::Expr;
 use rd_value::failure::{Failure, Outcome};
@@ -68,7 +69,7 @@ fn in_task(alloc: Global, task: &Text, error: ErrorValue) -> Result<Failure, Out
 }
 
 fn no_task(alloc: Global, task: &Text) -> Result<Failure, OutOfMemory>
-    ensures { IfOk result (λ f. f ≡ errors.in_task [] (errors.raised class.NameError task.now)) }
+    ensures { IfOk result (λ f. f ≡ errors.in_task [] (raise.raised class.NameError task.now)) }
 {
     let origin = Text::from_str(alloc, "")?;
     in_task(

@@ -11,7 +11,6 @@ mod lists;
 mod names;
 mod parse;
 mod print;
-mod raise;
 mod serial;
 mod shown;
 mod source;

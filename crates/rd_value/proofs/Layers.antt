@@ -34,3 +34,7 @@ depth_dict {F} ps = fold-roll-Datum F ℕ depth_at (Datum-F.Dict ps)
 pub repr_dict : {F : Type 0} (file : F → FileValue) (ps : List (Datum F × Datum F)) → repr file (variant.Dict ps) ≡ codes "{" ++ with_commas (map pair_repr (map (λ p. (repr file p.0, repr file p.1)) ps)) ++ codes "}"
 unfolding made.roll-Datum denote.Hole.Carrier.roll
 repr_dict {F} file ps = fold-roll-Datum F (List ℕ) (repr_at file) (Datum-F.Dict ps)
+
+pub depth_list : {F : Type 0} (xs : List (Datum F)) → depth (variant.List xs) ≡ greatest (map depth xs) + 1
+unfolding made.roll-Datum denote.Hole.Carrier.roll
+depth_list {F} xs = fold-roll-Datum F ℕ depth_at (Datum-F.List xs)

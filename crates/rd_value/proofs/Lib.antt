@@ -7,7 +7,15 @@ pub mod Walks
 pub mod Layers
 pub mod ExprLayers
 pub mod Ind
+pub mod Cut
+pub mod LawfulValues
 pub mod Erased
 pub mod ErasedExprs
 pub mod ErasedLimits
+pub mod ErasedCompare
 pub mod ErasedOperators
+pub mod ErasedBind
+pub mod ErasedExpand
+pub mod Restored
+pub mod Depths
+pub mod Comparing

@@ -1,5 +1,6 @@
 -- Values and expressions with something else in place of each of their files.
-use Rattle.std.specs.Prelude.{map, Result, Ok, Err}
+use Rattle.std.specs.Prelude.{ℕ, List, map, Option, Result, Ok, Err}
+use Rattle.std.specs.Option.{option_map}
 use Rattle.rd_value.specs.declared.value.ErrorValue.{ErrorValue}
 use Rattle.rd_value.specs.declared.value.FileValue.{FileValue}
 use Rattle.rd_value.specs.declared.value.Datum.{Datum}
@@ -52,6 +53,24 @@ module _ {F G : Type 0} (h : F → G) where
 abbrev pub carried : {F G : Type 0} → (F → G) → Result (Datum F) ErrorValue → Result (Datum G) ErrorValue
 carried h (Ok v) = Ok (with_files h v)
 carried h (Err e) = Err e
+
+-- the answer of an operation, with the files of each of its values
+abbrev pub carried_all : {F G : Type 0} → (F → G) → Result (List (Datum F)) ErrorValue → Result (List (Datum G)) ErrorValue
+carried_all h (Ok vs) = Ok (map (with_files h) vs)
+carried_all h (Err e) = Err e
+
+-- the answer of an operation, with its expression's files
+abbrev pub carried_expr : {F G : Type 0} → (F → G) → Result (Lazy F) ErrorValue → Result (Lazy G) ErrorValue
+carried_expr h (Ok e) = Ok (with_files_expr h e)
+carried_expr h (Err e) = Err e
+
+-- a parameter with its default
+abbrev pub with_files_default : {F G : Type 0} → (F → G) → List ℕ × Option (Datum F) → List ℕ × Option (Datum G)
+with_files_default h p = (p.0, option_map (with_files h) p.1)
+
+-- a keyword
+abbrev pub with_files_keyword : {F G : Type 0} → (F → G) → List ℕ × Datum F → List ℕ × Datum G
+with_files_keyword h k = (k.0, with_files h k.1)
 
 -- a value as the program holds it
 abbrev pub erase : ModelValue → Datum FileValue

@@ -2,7 +2,16 @@ pub mod Class
 pub mod Canon
 pub mod Depth
 pub mod Limits
-pub mod Operators
+pub mod Raise
 pub mod Repr
+pub mod Truth
+pub mod Compare
+pub mod Make
+pub mod Operators
+pub mod Bind
+pub mod Expand
 pub mod Model
 pub mod Erase
+pub mod Files
+pub mod Book
+pub mod Lawful

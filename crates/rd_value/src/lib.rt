@@ -1,7 +1,9 @@
 //! Values and expressions.
 #![tactic(auto)]
 
+pub mod book;
 pub mod class;
+mod compare;
 pub mod crossing;
 mod depth;
 pub mod erasure;
@@ -9,8 +11,11 @@ pub mod expr;
 mod expr_depth;
 mod expr_size;
 pub mod failure;
+pub mod lawful;
 pub mod limits;
+pub mod make;
 pub mod operators;
+pub mod raise;
 pub mod repr;
 pub mod same;
 #[cfg(test)]
@@ -19,4 +24,5 @@ pub mod signature;
 mod size;
 #[cfg(test)]
 mod tests;
+mod truth;
 pub mod value;

@@ -2,7 +2,8 @@
 
 ghost use Rattle.std.specs.Prelude.{◌≡◌, ◌++◌, IfOk, string_bytes};
 ghost use Rattle.rd_value.specs.declared.value.Datum.{out-Datum};
-ghost use Rattle.rd_value.specs.Operators.{number_at, kept, plus_numbers, plus};
+ghost use Rattle.rd_value.specs.Compare.{number_at};
+ghost use Rattle.rd_value.specs.Operators.{kept, plus_numbers, plus};
 
 use crate::class::Class;
 use crate::value::{Datum, ErrorValue, FileValue, Value, Values};

@@ -1,9 +1,11 @@
 use crate::class::Class;
-use crate::expr::{Expr, Exprs, NamedExprs};
+use crate::expr::{Expr, ExprPairs, Exprs, NamedExprs};
 use crate::limits::are_within;
+use crate::make::MakeError;
 use crate::value::{ErrorValue, FileValue, Pairs, Value, Values};
-use rd_base::{Digest, OutOfMemory, Path, Text};
+use rd_base::{Copies, Digest, OutOfMemory, Path, Text};
 use std::alloc::Global;
+use std::cmp::Ordering;
 use std::process::Abort;
 
 fn text(alloc: Global, text: &str) -> Result<Value, OutOfMemory> {
@@ -186,4 +188,117 @@ fn adds(rt: HostRuntime) -> Result<(), OutOfMemory> {
     expect_printed(&rt, alloc, &sum, "2")?;
     let sum = sum_of(alloc, &Value::Int(i64::MAX), &Value::Bool(true))?;
     expect_printed(&rt, alloc, &sum, "OverflowError('out of range')")
+}
+
+/// `{'a': b, 'b': a}`, in the other order than `dict`.
+fn turned(alloc: Global, a: Value, b: Value) -> Result<Value, OutOfMemory> {
+    let mut pairs = Pairs::new(alloc);
+    pairs.push(alloc, (text(alloc, "a")?, b))?;
+    pairs.push(alloc, (text(alloc, "b")?, a))?;
+    Ok(Value::Dict(pairs))
+}
+
+#[test]
+fn compares(rt: HostRuntime) -> Result<(), OutOfMemory> {
+    let alloc = rt.alloc();
+    let equal = Some(Ordering::Equal);
+    let less = Some(Ordering::Less);
+    for (a, b, want) in [
+        (Value::Bool(true), Value::Int(1), equal),
+        (Value::Bool(false), Value::Nothing, None),
+        (Value::Int(-1), Value::Bool(false), less),
+        (text(alloc, "z")?, text(alloc, "é")?, less),
+        (text(alloc, "1")?, Value::Int(1), None),
+        (
+            list(alloc, Value::Bool(true), Value::Int(1))?,
+            list(alloc, Value::Int(1), Value::Int(2))?,
+            less,
+        ),
+        (
+            list(alloc, Value::Nothing, Value::Int(3))?,
+            list(alloc, Value::Nothing, Value::Int(2))?,
+            Some(Ordering::Greater),
+        ),
+        (
+            list(alloc, Value::Nothing, Value::Nothing)?,
+            list(alloc, Value::Int(0), Value::Nothing)?,
+            None,
+        ),
+        (
+            dict(alloc, Value::Int(1), Value::Bool(false))?,
+            turned(alloc, Value::Bool(true), Value::Int(0))?,
+            equal,
+        ),
+        (
+            dict(alloc, Value::Int(1), Value::Int(2))?,
+            turned(alloc, Value::Int(2), Value::Int(1))?,
+            None,
+        ),
+        (file(alloc)?, file(alloc)?, equal),
+        (key_error(alloc)?, key_error(alloc)?, equal),
+        (mixed(alloc)?, mixed(alloc)?, equal),
+    ] {
+        assert!(rt; a.compared(&b) == want);
+        assert_eq!(rt; a.equal(&b), want == equal);
+    }
+    Ok(())
+}
+
+#[test]
+fn holds_true(rt: HostRuntime) -> Result<(), OutOfMemory> {
+    let alloc = rt.alloc();
+    for (value, want) in [
+        (Value::Nothing, false),
+        (Value::Bool(false), false),
+        (Value::Bool(true), true),
+        (Value::Int(0), false),
+        (Value::Int(-1), true),
+        (text(alloc, "")?, false),
+        (text(alloc, "0")?, true),
+        (Value::List(Values::new(alloc)), false),
+        (Value::Dict(Pairs::new(alloc)), false),
+        (empties(alloc)?, true),
+        (small_dict(alloc)?, true),
+        (file(alloc)?, true),
+        (key_error(alloc)?, true),
+    ] {
+        assert_eq!(rt; value.truth(), want);
+    }
+    Ok(())
+}
+
+fn list_around(alloc: Global, value: Value) -> Result<Value, MakeError> {
+    let mut items = Values::new(alloc);
+    items.push(alloc, value)?;
+    Value::list(alloc, items)
+}
+
+#[test]
+fn makes_values(rt: HostRuntime) -> Result<(), MakeError> {
+    let alloc = rt.alloc();
+    let deepest = list_around(alloc, nested(alloc, 63)?)?;
+    assert_eq!(rt; deepest.depth(), 64);
+    assert!(rt; list_around(alloc, nested(alloc, 64)?) == Err(MakeError::LimitError));
+    assert!(rt; list_around(alloc, repeated(alloc, 1_048_564)?) == Err(MakeError::LimitError));
+    let pairs = Pairs::new(alloc);
+    assert!(rt; Value::dict(alloc, pairs)? == Value::Dict(Pairs::new(alloc)));
+    Ok(())
+}
+
+#[test]
+fn makes_expressions(rt: HostRuntime) -> Result<(), MakeError> {
+    let alloc = rt.alloc();
+    let mut settled = Exprs::new(alloc);
+    settled.push(alloc, Expr::Val(Value::Int(1)))?;
+    let pending = {
+        let mut parts = settled.copy(alloc)?;
+        parts.push(alloc, call(alloc)?)?;
+        parts
+    };
+    let one = list_around(alloc, Value::Int(1))?;
+    assert!(rt; Expr::list(alloc, settled)? == Expr::Val(one));
+    assert!(rt; Expr::list(alloc, pending.copy(alloc)?)? == Expr::ListOf(pending));
+    let pairs = ExprPairs::new(alloc);
+    assert!(rt; Expr::dict(alloc, pairs)? == Expr::Val(Value::Dict(Pairs::new(alloc))));
+    Ok(())
 }

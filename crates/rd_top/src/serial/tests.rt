@@ -3,9 +3,17 @@ use crate::disk::MemoryDisk;
 use rd_base::{MemorySink, Path};
 use std::alloc::Global;
 
-/// The text of `w.py` where there is one, the words, and the line and the status that they come to.
+/// What there is at `w.py`.
+enum File {
+    Nothing,
+    Text(&'static str),
+    /// Its read fails.
+    Unreadable,
+}
+
+/// What there is at `w.py`, the words, and the line and the status that they come to.
 struct Case {
-    source: Option<&'static str>,
+    file: File,
     words: &'static [&'static str],
     line: &'static str,
     status: u8,
@@ -13,9 +21,9 @@ struct Case {
 
 const RUN: &[&str] = &["run", "w.py", "main"];
 
-const CASES: [Case; 21] = [
+const CASES: [Case; 22] = [
     Case {
-        source: Some(
+        file: File::Text(
             "@task\ndef greet(who): return 'Hello, ' + who + '!'\n@task\ndef main(): return greet('World')\n",
         ),
         words: RUN,
@@ -23,13 +31,13 @@ const CASES: [Case; 21] = [
         status: 0,
     },
     Case {
-        source: Some("@task\ndef greet(who): return who\n@task\ndef main(): return greet()\n"),
+        file: File::Text("@task\ndef greet(who): return who\n@task\ndef main(): return greet()\n"),
         words: RUN,
         line: "error in greet: TypeError: 'missing argument who'\n",
         status: 1,
     },
     Case {
-        source: Some(
+        file: File::Text(
             "@task\ndef f(a, b): return a\n@task\ndef main(): return f('a', f('b', 'c', 'd'))\n",
         ),
         words: RUN,
@@ -37,7 +45,7 @@ const CASES: [Case; 21] = [
         status: 1,
     },
     Case {
-        source: Some(
+        file: File::Text(
             "@task\ndef f(a, b): return b + a\n@task\ndef main(): return f('a', f('b', 'c'))\n",
         ),
         words: RUN,
@@ -45,108 +53,117 @@ const CASES: [Case; 21] = [
         status: 0,
     },
     Case {
-        source: Some("@task\ndef f(): return 'a'\n@task\ndef main(): return 'b' + f()\n"),
+        file: File::Text("@task\ndef f(): return 'a'\n@task\ndef main(): return 'b' + f()\n"),
         words: RUN,
         line: "error in main: TypeError: 'lazy value'\n",
         status: 1,
     },
     Case {
-        source: Some("@task\ndef main(who): return who\n"),
+        file: File::Text("@task\ndef main(who): return who\n"),
         words: RUN,
         line: "error in main: TypeError: 'missing argument who'\n",
         status: 1,
     },
     Case {
-        source: Some("@task\ndef main(): return \"it's\" + '\\n\\x01' + \"\"\"\"\"\"\n"),
+        file: File::Text("@task\ndef main(): return \"it's\" + '\\n\\x01' + \"\"\"\"\"\"\n"),
         words: RUN,
         line: "\"it's\\n\\x01\"\n",
         status: 0,
     },
     Case {
-        source: Some("@task\ndef main(): return 'it\\'s' + \"\\\"\\t\\\\\"\n"),
+        file: File::Text("@task\ndef main(): return 'it\\'s' + \"\\\"\\t\\\\\"\n"),
         words: RUN,
         line: "'it\\'s\"\\t\\\\'\n",
         status: 0,
     },
     Case {
-        source: Some("@task\ndef main(): return main()\n"),
+        file: File::Text("@task\ndef main(): return main()\n"),
         words: RUN,
         line: "too large\n",
         status: 7,
     },
     Case {
-        source: Some(""),
+        file: File::Text(""),
         words: RUN,
         line: "not found: main\n",
         status: 11,
     },
     Case {
-        source: None,
+        file: File::Nothing,
         words: RUN,
         line: "not found: w.py\n",
         status: 11,
     },
     Case {
-        source: Some("@task\ndef main("),
+        file: File::Unreadable,
+        words: RUN,
+        line: "disk unavailable\n",
+        status: 5,
+    },
+    Case {
+        file: File::Text("@task\ndef main("),
         words: RUN,
         line: "source refused at line 1\n",
         status: 3,
     },
     Case {
-        source: Some("@task\ndef main(): return who\n"),
+        file: File::Text("@task\ndef main(): return who\n"),
         words: RUN,
         line: "source refused at line 1\n",
         status: 3,
     },
     Case {
-        source: Some("@task\ndef main(): return 'a'\n"),
+        file: File::Text("@task\ndef main(): return 'a'\n"),
         words: &["run", "w.py", "-"],
         line: "not found: -\n",
         status: 11,
     },
     Case {
-        source: None,
+        file: File::Nothing,
         words: &[],
         line: "words refused\n",
         status: 2,
     },
     Case {
-        source: None,
+        file: File::Nothing,
         words: &["fly"],
         line: "words refused\n",
         status: 2,
     },
     Case {
-        source: Some(""),
+        file: File::Text(""),
         words: &["run", "w.py"],
         line: "words refused\n",
         status: 2,
     },
     Case {
-        source: Some(""),
+        file: File::Text(""),
         words: &["run", "w.py", ""],
         line: "words refused\n",
         status: 2,
     },
     Case {
-        source: Some(""),
+        file: File::Text(""),
         words: &["run", "../w.py", "main"],
         line: "words refused\n",
         status: 2,
     },
     Case {
-        source: Some(""),
+        file: File::Text(""),
         words: &["run", "w.py", "-main"],
         line: "words refused\n",
         status: 2,
     },
     Case {
-        source: Some(""),
+        file: File::Text(""),
         words: &["run", "w.py", "main", "more"],
         line: "words refused\n",
         status: 2,
     },
 ];
+
+/// Only an allocation that is made to fail brings this line: no test can ask for it.
+const WANT_OF_MEMORY: &str = "out of memory\n";
 
 fn strings(alloc: Global, words: &[&str]) -> Option<Vec<String>> {
     let mut strings = Vec::new(alloc);
@@ -157,60 +174,109 @@ fn strings(alloc: Global, words: &[&str]) -> Option<Vec<String>> {
     Some(strings)
 }
 
-fn disk_of(alloc: Global, source: Option<&str>) -> Option<MemoryDisk> {
+fn disk_of(alloc: Global, file: &File) -> Option<MemoryDisk> {
     let mut disk = MemoryDisk::new(alloc);
-    if let Some(text) = source {
-        let path = Path::new(alloc, "w.py").ok()?;
-        disk.write(alloc, &path, text.as_bytes()).ok()?;
+    match file {
+        File::Nothing => {}
+        File::Text(text) => {
+            let path = Path::new(alloc, "w.py").ok()?;
+            disk.write(alloc, &path, text.as_bytes()).ok()?;
+        }
+        File::Unreadable => disk.fail_at(alloc, 1).ok()?,
     }
     Some(disk)
 }
 
-fn comes_out(alloc: Global, case: &Case) -> Option<bool> {
-    let words = strings(alloc, case.words)?;
-    let mut disk = disk_of(alloc, case.source)?;
-    let mut out = MemorySink::new(alloc);
-    let status = redun_serial(alloc, words.as_slice(), &mut disk, &mut out);
-    Some(status.number() == case.status && out.bytes() == case.line.as_bytes())
-}
-
-#[test]
-fn runs(rt: HostRuntime) {
-    for case in &CASES {
-        assert_eq!(rt; comes_out(rt.alloc(), case), Some(true), "{}", case.line);
-    }
-}
-
-/// A run of a small file, where the write of this number and the read of the file fail, or don't.
-fn fails(
-    alloc: Global,
-    failing_write: u64,
+/// A sink that takes its line whole or byte by byte, until so many writes were made. The next one fails.
+#[derive(Clone, Copy)]
+struct Planned {
     is_narrow: bool,
-    disk_fails: bool,
-) -> Option<(u8, bool)> {
-    let words = strings(alloc, RUN)?;
-    let mut disk = disk_of(alloc, Some("@task\ndef main(): return 'abc'\n"))?;
-    let mut out = MemorySink::new(alloc);
-    out.fail_at(alloc, failing_write).ok()?;
-    if is_narrow {
-        out.narrow();
+    writes: usize,
+}
+
+fn sink_of(alloc: Global, planned: Planned) -> Option<MemorySink> {
+    let mut sink = MemorySink::new(alloc);
+    let failing = (planned.writes as u64).saturating_add(1);
+    sink.fail_at(alloc, failing).ok()?;
+    if planned.is_narrow {
+        sink.narrow();
     }
-    if disk_fails {
-        disk.fail_at(alloc, 2).ok()?;
+    Some(sink)
+}
+
+/// The status that is to come, and how many bytes of the line.
+fn wanted(case: &Case, planned: Planned) -> (u8, usize) {
+    let whole = case.line.len();
+    let needed = if planned.is_narrow { whole } else { 1 };
+    if planned.writes < needed {
+        (10, planned.writes)
+    } else {
+        (case.status, whole)
     }
+}
+
+/// How a run ends: as it is to, for want of memory, or otherwise.
+#[derive(Clone, Copy, Debug, PartialEq, Eq)]
+enum End {
+    Right,
+    WantsMemory,
+    Wrong,
+}
+
+fn judged(case: &Case, planned: Planned, status: u8, written: &[u8]) -> End {
+    let is_of_case = case.line.as_bytes().starts_with(written);
+    let is_of_memory = WANT_OF_MEMORY.as_bytes().starts_with(written);
+    if is_of_case && (status, written.len()) == wanted(case, planned) {
+        End::Right
+    } else if status == 6 && written == WANT_OF_MEMORY.as_bytes()
+        || status == 10 && (is_of_case || is_of_memory)
+    {
+        End::WantsMemory
+    } else {
+        End::Wrong
+    }
+}
+
+fn run(alloc: Global, case: &Case, planned: Planned) -> Option<End> {
+    let words = strings(alloc, case.words)?;
+    let mut disk = disk_of(alloc, &case.file)?;
+    let mut out = sink_of(alloc, planned)?;
     let status = redun_serial(alloc, words.as_slice(), &mut disk, &mut out);
-    let written = match (is_narrow, disk_fails) {
-        (true, _) => out.bytes() == b"'a".as_slice(),
-        (_, true) => out.bytes() == b"disk unavailable\n".as_slice(),
-        _ => out.bytes().is_empty(),
-    };
-    Some((status.number(), written))
+    Some(judged(case, planned, status.number(), out.bytes()))
+}
+
+/// Where one allocation is made to fail, a second run finds the memory that the first one wanted.
+fn ends(alloc: Global, case: &Case, planned: Planned) -> Option<End> {
+    match run(alloc, case, planned) {
+        None | Some(End::WantsMemory) => run(alloc, case, planned),
+        end => end,
+    }
 }
 
 #[test]
-fn faults(rt: HostRuntime) {
-    let alloc = rt.alloc();
-    assert_eq!(rt; fails(alloc, 1, false, false), Some((10, true)));
-    assert_eq!(rt; fails(alloc, 3, true, false), Some((10, true)));
-    assert_eq!(rt; fails(alloc, 2, false, true), Some((5, true)));
+fn whole_sinks(rt: HostRuntime) {
+    for case in &CASES {
+        for writes in 0..=1 {
+            let planned = Planned {
+                is_narrow: false,
+                writes,
+            };
+            let end = ends(rt.alloc(), case, planned);
+            assert_eq!(rt; end, Some(End::Right), "at {writes}: {}", case.line);
+        }
+    }
+}
+
+#[test]
+fn narrow_sinks(rt: HostRuntime) {
+    for case in &CASES {
+        for writes in 0..=case.line.len() {
+            let planned = Planned {
+                is_narrow: true,
+                writes,
+            };
+            let end = ends(rt.alloc(), case, planned);
+            assert_eq!(rt; end, Some(End::Right), "at {writes}: {}", case.line);
+        }
+    }
 }

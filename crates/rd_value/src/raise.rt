@@ -1,11 +1,11 @@
 //! Errors as they are raised.
 
 ghost use Rattle.std.specs.Prelude.{◌≡◌, IfOk};
-ghost use Rattle.rd_top.specs.Errors as errors;
+ghost use Rattle.rd_value.specs.Raise as spec;
 
+use crate::class::Class;
+use crate::value::ErrorValue;
 use rd_base::{OutOfMemory, Text};
-use rd_value::class::Class;
-use rd_value::value::ErrorValue;
 use std::alloc::Global;
 
 /// The most bytes of an error's text.
@@ -13,7 +13,7 @@ pub const LONGEST: usize = 4096;
 
 /// The longest front of whole characters within the limit of an error's text.
 fn cut(text: &str) -> &str
-    ensures { result.now ≡ errors.cut text.now }
+    ensures { result.now ≡ spec.cut text.now }
 {
     if text.len() <= LONGEST {
         return text;
@@ -23,7 +23,7 @@ fn cut(text: &str) -> &str
 
 /// An error as it is raised.
 pub fn raised(alloc: Global, class: Class, text: &str) -> Result<ErrorValue, OutOfMemory>
-    ensures { IfOk result (λ e. e ≡ errors.raised class text.now) }
+    ensures { IfOk result (λ e. e ≡ spec.raised class text.now) }
 {
     Ok(ErrorValue {
         class,

@@ -1,9 +1,9 @@
 use Rattle.std.proofs.Common.{length, arith}
-use Rattle.rd_top.proofs.Cut.{floor_is}
+use Rattle.rd_value.proofs.Cut.{floor_is}
 use borrow.Author.Tests.{lt-leb}
 use Rattle.std.proofs.lemmas.Grind.{common_steps}
-use Rattle.rd_top.specs.Errors.{longest}
-use Rattle.rd_top.proofs.raise.cut.Goals as goal
+use Rattle.rd_value.specs.Raise.{longest}
+use Rattle.rd_value.proofs.raise.cut.Goals as goal
 
 pub returns : goal.returns
 returns c =
