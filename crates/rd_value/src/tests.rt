@@ -198,46 +198,53 @@ fn turned(alloc: Global, a: Value, b: Value) -> Result<Value, OutOfMemory> {
     Ok(Value::Dict(pairs))
 }
 
+/// Values of every kind.
+fn sample(alloc: Global, index: u8) -> Result<Value, OutOfMemory> {
+    match index {
+        0 => Ok(Value::Nothing),
+        1 => Ok(Value::Bool(false)),
+        2 => Ok(Value::Bool(true)),
+        3 => Ok(Value::Int(0)),
+        4 => Ok(Value::Int(1)),
+        5 => text(alloc, ""),
+        6 => text(alloc, "1"),
+        7 => text(alloc, "z"),
+        8 => text(alloc, "é"),
+        9 => Ok(Value::List(Values::new(alloc))),
+        10 => list(alloc, Value::Bool(true), Value::Int(1)),
+        11 => list(alloc, Value::Int(1), Value::Int(2)),
+        12 => list(alloc, Value::Nothing, Value::Int(3)),
+        13 => Ok(Value::Dict(Pairs::new(alloc))),
+        14 => dict(alloc, Value::Int(1), Value::Bool(false)),
+        15 => turned(alloc, Value::Bool(true), Value::Int(0)),
+        16 => turned(alloc, Value::Int(0), Value::Int(1)),
+        17 => file(alloc),
+        18 => key_error(alloc),
+        _ => mixed(alloc),
+    }
+}
+
 #[test]
 fn compares(rt: HostRuntime) -> Result<(), OutOfMemory> {
-    let alloc = rt.alloc();
     let equal = Some(Ordering::Equal);
-    let less = Some(Ordering::Less);
     for (a, b, want) in [
-        (Value::Bool(true), Value::Int(1), equal),
-        (Value::Bool(false), Value::Nothing, None),
-        (Value::Int(-1), Value::Bool(false), less),
-        (text(alloc, "z")?, text(alloc, "é")?, less),
-        (text(alloc, "1")?, Value::Int(1), None),
-        (
-            list(alloc, Value::Bool(true), Value::Int(1))?,
-            list(alloc, Value::Int(1), Value::Int(2))?,
-            less,
-        ),
-        (
-            list(alloc, Value::Nothing, Value::Int(3))?,
-            list(alloc, Value::Nothing, Value::Int(2))?,
-            Some(Ordering::Greater),
-        ),
-        (
-            list(alloc, Value::Nothing, Value::Nothing)?,
-            list(alloc, Value::Int(0), Value::Nothing)?,
-            None,
-        ),
-        (
-            dict(alloc, Value::Int(1), Value::Bool(false))?,
-            turned(alloc, Value::Bool(true), Value::Int(0))?,
-            equal,
-        ),
-        (
-            dict(alloc, Value::Int(1), Value::Int(2))?,
-            turned(alloc, Value::Int(2), Value::Int(1))?,
-            None,
-        ),
-        (file(alloc)?, file(alloc)?, equal),
-        (key_error(alloc)?, key_error(alloc)?, equal),
-        (mixed(alloc)?, mixed(alloc)?, equal),
+        (2, 4, equal),
+        (1, 0, None),
+        (1, 4, Some(Ordering::Less)),
+        (7, 8, Some(Ordering::Less)),
+        (6, 4, None),
+        (10, 11, Some(Ordering::Less)),
+        (11, 9, Some(Ordering::Greater)),
+        (12, 11, None),
+        (14, 15, equal),
+        (14, 16, None),
+        (13, 9, None),
+        (17, 17, equal),
+        (18, 18, equal),
+        (19, 19, equal),
     ] {
+        let a = sample(rt.alloc(), a)?;
+        let b = sample(rt.alloc(), b)?;
         assert!(rt; a.compared(&b) == want);
         assert_eq!(rt; a.equal(&b), want == equal);
     }
@@ -246,22 +253,22 @@ fn compares(rt: HostRuntime) -> Result<(), OutOfMemory> {
 
 #[test]
 fn holds_true(rt: HostRuntime) -> Result<(), OutOfMemory> {
-    let alloc = rt.alloc();
-    for (value, want) in [
-        (Value::Nothing, false),
-        (Value::Bool(false), false),
-        (Value::Bool(true), true),
-        (Value::Int(0), false),
-        (Value::Int(-1), true),
-        (text(alloc, "")?, false),
-        (text(alloc, "0")?, true),
-        (Value::List(Values::new(alloc)), false),
-        (Value::Dict(Pairs::new(alloc)), false),
-        (empties(alloc)?, true),
-        (small_dict(alloc)?, true),
-        (file(alloc)?, true),
-        (key_error(alloc)?, true),
+    for (index, want) in [
+        (0, false),
+        (1, false),
+        (2, true),
+        (3, false),
+        (4, true),
+        (5, false),
+        (7, true),
+        (9, false),
+        (10, true),
+        (13, false),
+        (14, true),
+        (17, true),
+        (18, true),
     ] {
+        let value = sample(rt.alloc(), index)?;
         assert_eq!(rt; value.truth(), want);
     }
     Ok(())
