@@ -18,4 +18,5 @@ pub mod ErasedBind
 pub mod ErasedExpand
 pub mod Restored
 pub mod Depths
+pub mod Dicts
 pub mod Comparing
