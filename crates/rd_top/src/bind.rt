@@ -6,9 +6,9 @@ ghost use Rattle.rd_top.specs.Running.{own};
 
 use crate::lists::at;
 use rd_base::{OutOfMemory, Text};
-use rd_value::raise::raised;
 use rd_value::class::Class;
 use rd_value::limits::are_within;
+use rd_value::raise::raised;
 use rd_value::value::{ErrorValue, Values};
 use std::alloc::Global;
 

@@ -12,10 +12,10 @@ ghost use Rattle.rd_top.specs.Running.{own, state, Gives, Spends, reduction_of};
 use crate::lists::at;
 use crate::tree::{Function, Literal, Node, Operator, Statement};
 use rd_base::{Copies, Items, OutOfMemory, Text};
-use rd_value::raise::raised;
 use rd_value::class::Class;
 use rd_value::expr::{Expr, Exprs};
 use rd_value::failure::Failure;
+use rd_value::raise::raised;
 use rd_value::value::{ErrorValue, Value};
 use std::alloc::Global;
 

@@ -20,10 +20,10 @@ use crate::body::{Reduction, run_body};
 use crate::lazies::lazies;
 use crate::tree::{Function, Module};
 use rd_base::{Copies, Items, OutOfMemory, Text};
-use rd_value::raise::raised;
 use rd_value::class::Class;
 use rd_value::expr::Expr;
 use rd_value::failure::{Failure, Outcome};
+use rd_value::raise::raised;
 use rd_value::value::{ErrorValue, Value, Values};
 use std::alloc::Global;
 
