@@ -1,3 +1,5 @@
+pub mod Noting
+pub mod Statements
 pub mod Laws
 pub mod More
 pub mod Many

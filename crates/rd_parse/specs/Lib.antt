@@ -1,3 +1,6 @@
+pub mod Noting
+pub mod Statements
+pub mod StatementReading
 pub mod Form
 pub mod Reader
 pub mod Gives
