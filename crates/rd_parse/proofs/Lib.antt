@@ -1,3 +1,7 @@
+pub mod Modules
+pub mod Literals
+pub mod Numbers
+pub mod Such
 pub mod Noting
 pub mod Statements
 pub mod Laws
