@@ -1,3 +1,6 @@
+pub mod InnerAnnotation
+pub mod Past
+pub mod Texts
 pub mod Modules
 pub mod Literals
 pub mod Numbers

@@ -432,3 +432,17 @@ deep_lawful n = (deep_at n (inner_literal_lawful n)).rule.law inner_up
 pub deep_grows : Grows deep_literal
 unfolding deep_literal
 deep_grows n = (deep_at 0 inner_zero).rule.up n (inner_up n)
+
+-- ---- whole texts
+
+text_of_literal : (n : ℕ) → Step (λ j. Unit {0}) n form.literal_text reader.read_literal_text literal_first [] false
+unfolding reader.read_literal_text
+text_of_literal n =
+    let value : Step (λ j. Unit {0}) n deep_literal read_deep_literal literal_first (w.Text ∷ []) false = record { rule = base n _ _ _ _ false (λ j u. deep_grows j) (deep_lawful n) } in
+    wide refl refl (then refl value (λ v. then refl (takes (λ j. Unit {0}) n w.Newline) (λ u. then refl (takes (λ j. Unit {0}) n w.End) (λ x. makes (λ j. Unit {0}) n v))))
+
+pub literal_text_lawful : (n : ℕ) → Lawful n form.literal_text reader.read_literal_text (set literal_first) (set []) false
+literal_text_lawful n = (text_of_literal n).rule.law (λ j. tt)
+
+pub literal_text_grows : Grows form.literal_text
+literal_text_grows n = (text_of_literal 0).rule.up n tt

@@ -208,26 +208,26 @@ module _ (n : ℕ) where
 
   part_of_path_step : Of (λ _. form.part_of_path) (λ _. reader.read_part_of_path) (w.Dot ∷ []) [] false
   unfolding reader.read_part_of_path
-  part_of_path_step = then refl (takes Free n w.Dot) (λ u. then refl a_name (λ name. makes Free n tt))
+  part_of_path_step = then refl (takes Free n w.Dot) (λ u. takes Free n w.Name)
 
   another_name_step : Of (λ _. form.another_name) (λ _. reader.read_another_name) (w.Comma ∷ []) [] false
   unfolding reader.read_another_name
-  another_name_step = then refl (takes Free n w.Comma) (λ u. a_name)
+  another_name_step = then refl (takes Free n w.Comma) (λ u. takes Free n w.Name)
 
   names_step : Of (λ _. form.names) (λ _. reader.read_names) (w.Name ∷ []) (w.Comma ∷ []) false
   unfolding reader.read_names
-  names_step = then refl a_name (λ a. then refl (each (hits (is w.Comma)) (tests w.Comma) refl another_name_step) (λ more. makes Free n tt))
+  names_step = then refl (takes Free n w.Name) (λ a. then refl (each (hits (is w.Comma)) (tests w.Comma) refl another_name_step) (λ more. makes Free n tt))
 
   names_in_step : Of form.names_in reader.read_names_in (w.LeftParen ∷ []) [] false
   unfolding reader.read_names_in
-  names_in_step = then refl (opens_with Free n w.LeftParen) (λ u. then refl a_name (λ a. then refl (commas (hits name_of) name_is refl refl a_name) (λ more. then refl (takes Free n w.RightParen) (λ v. makes Free n tt))))
+  names_in_step = then refl (opens_with Free n w.LeftParen) (λ u. then refl (takes Free n w.Name) (λ a. then refl (commas (hits (is w.Name)) (tests w.Name) refl refl (takes Free n w.Name)) (λ more. then refl (takes Free n w.RightParen) (λ v. makes Free n tt))))
 
   import_step : Of form.import_line reader.read_import_line (w.From ∷ []) [] false
   unfolding reader.read_import_line
   import_step =
       then refl (takes Free n w.From) (λ u. then refl (carries Free n redun_word (w.Name ∷ []) (spelled (codes "redun")) tt redun_there redun_within)
       (λ v. then refl (each (hits (is w.Dot)) (tests w.Dot) refl part_of_path_step) (λ path. then refl (takes Free n w.Import)
-      (λ x. then refl (chooses (hits name_of) name_is refl names_step names_in_step) (λ y. then refl (takes Free n w.Newline) (λ z. makes Free n tt))))))
+      (λ x. then refl (chooses (hits (is w.Name)) (tests w.Name) refl names_step names_in_step) (λ y. then refl (takes Free n w.Newline) (λ z. makes Free n tt))))))
 
   -- ---- modules
 

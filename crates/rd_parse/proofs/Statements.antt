@@ -24,8 +24,9 @@ use Rattle.rd_parse.proofs.Pick.{Apart2, eager_by}
 use Rattle.rd_parse.proofs.Sets.{holds_one, set, join_set, and_both, by_way, sets_apart}
 use Rattle.rd_parse.proofs.Samples.{example, example_is}
 use Rattle.rd_parse.proofs.Steps.{Step, wide, carries, takes, opens_with, makes, then, chooses, each, tests, picks}
-use Rattle.rd_parse.proofs.Expressions.{first, expression_more, first_is, name_is, text_is, name_there, there_some}
+use Rattle.rd_parse.proofs.Expressions.{first, expression_more, first_is, name_is, name_there, there_some}
 use Rattle.rd_parse.proofs.Nested.{lone_expression, expression_lawful, expression_grows}
+use Rattle.rd_parse.proofs.Loops.{Shrinks, shrinks_of}
 use Rattle.rd_parse.proofs.Noting.{noting_lawful}
 
 -- ---- sets of tokens
@@ -81,38 +82,35 @@ module _ (U : ℕ → Type 0) (n : ℕ) (X : ℕ → Form Token (Unit {0})) (F :
   abbrev Kind : (ℕ → Form Token (Unit {0}) → Form Token (Unit {0})) → (ℕ → Reader Token (Unit {0}) → Reader Token (Unit {0})) → List Terminal → List Terminal → Bool → Type 0
   Kind P f = Step U n (λ m. P m (X m)) (λ m. f m (F m))
 
-  a_name : Step U n (λ _. one name_of) (λ _. read_one name_of) (w.Name ∷ []) [] false
-  a_name = carries U n name_of (w.Name ∷ []) (example w.Name) _ name_there (λ t h. name_is t ∙ h)
-
-  dotted_name_step : Kind form.dotted_name reader.read_dotted_name (w.Dot ∷ []) [] false
+  pub dotted_name_step : Step U n (λ _. form.dotted_name) (λ _. reader.read_dotted_name) (w.Dot ∷ []) [] false
   unfolding reader.read_dotted_name
-  dotted_name_step = then refl (takes U n w.Dot) (λ u. then refl a_name (λ name. makes U n tt))
+  dotted_name_step = then refl (takes U n w.Dot) (λ u. takes U n w.Name)
 
-  long_name_step : Kind form.long_name reader.read_long_name (w.Name ∷ []) (w.Dot ∷ []) false
+  long_name_step : Step U n (λ _. form.long_name) (λ _. reader.read_long_name) (w.Name ∷ []) (w.Dot ∷ []) false
   unfolding reader.read_long_name
-  long_name_step = then refl a_name (λ name. then refl (each (hits (is w.Dot)) (tests w.Dot) refl dotted_name_step) (λ more. makes U n tt))
+  long_name_step = then refl (takes U n w.Name) (λ u. then refl (each (hits (is w.Dot)) (tests w.Dot) refl dotted_name_step) (λ more. makes U n tt))
 
-  quoted_name_step : Kind form.quoted_name reader.read_quoted_name (w.Text ∷ []) [] false
-  unfolding reader.read_quoted_name
-  quoted_name_step = then refl (carries U n text_of (w.Text ∷ []) (example w.Text) _ text_there (λ t h. text_is t ∙ h)) (λ t. makes U n tt)
-
-  kind_step : Kind form.kind reader.read_kind part_first (w.Dot ∷ []) false
+  kind_step : Step U n (λ _. form.kind) (λ _. reader.read_kind) part_first (w.Dot ∷ []) false
   unfolding reader.read_kind
-  kind_step = wide refl refl (chooses (hits name_of) name_is refl long_name_step (chooses (hits (is w.Nothing)) (tests w.Nothing) refl (takes U n w.Nothing) quoted_name_step))
+  kind_step = wide refl refl (chooses (hits (is w.Name)) (tests w.Name) refl long_name_step (chooses (hits (is w.Nothing)) (tests w.Nothing) refl (takes U n w.Nothing) (takes U n w.Text)))
 
-  another_step : Kind form.another reader.read_another (w.Comma ∷ []) annotation_more false
+  pub another_step : Kind form.another reader.read_another (w.Comma ∷ []) annotation_more false
   unfolding reader.read_another
   another_step = then refl (takes U n w.Comma) (λ u. inside)
 
+  others_step : Kind form.others reader.read_others (w.Comma ∷ []) (w.Comma ∷ annotation_more) true
+  unfolding reader.read_others
+  others_step = wide refl refl (then refl (each (hits (is w.Comma)) (tests w.Comma) refl another_step) (λ more. makes U n tt))
+
   of_kinds_step : Kind form.of_kinds reader.read_of_kinds (w.LeftSquare ∷ []) [] false
   unfolding reader.read_of_kinds
-  of_kinds_step = then refl (opens_with U n w.LeftSquare) (λ u. then refl inside (λ a. then refl (each (hits (is w.Comma)) (tests w.Comma) refl another_step) (λ more. then refl (takes U n w.RightSquare) (λ v. makes U n tt))))
+  of_kinds_step = then refl (opens_with U n w.LeftSquare) (λ u. then refl inside (λ v. then refl others_step (λ x. then refl (takes U n w.RightSquare) (λ y. makes U n tt))))
 
   union_part_step : Kind form.union_part reader.read_union_part part_first part_more false
   unfolding reader.read_union_part
   union_part_step = wide refl refl (then refl kind_step (λ u. chooses (hits (is w.LeftSquare)) (tests w.LeftSquare) refl of_kinds_step (makes U n tt)))
 
-  another_part_step : Kind form.another_part reader.read_another_part (w.Bar ∷ []) part_more false
+  pub another_part_step : Kind form.another_part reader.read_another_part (w.Bar ∷ []) part_more false
   unfolding reader.read_another_part
   another_part_step = then refl (takes U n w.Bar) (λ u. union_part_step)
 
@@ -138,8 +136,11 @@ On j = Up j inner_annotation
 abbrev Annotations : ℕ → Type 0
 Annotations n = Lawful n inner_annotation read_inner_annotation (set part_first) (set annotation_more) false
 
+inside_at : (n : ℕ) → Annotations n → Step On n inner_annotation read_inner_annotation part_first annotation_more false
+inside_at n l = record { rule = base n _ _ _ _ false (λ j u. u) l }
+
 union_at : (n : ℕ) → Annotations n → Step On n (λ m. form.union m (inner_annotation m)) (λ m. reader.read_union m (read_inner_annotation m)) part_first annotation_more false
-union_at n l = union_step On n inner_annotation read_inner_annotation (record { rule = base n _ _ _ _ false (λ j u. u) l })
+union_at n l = union_step On n inner_annotation read_inner_annotation (inside_at n l)
 
 annotations_zero : Annotations 0
 unfolding inner_annotation read_inner_annotation
@@ -419,3 +420,16 @@ block_lawful n = (block_step OnBlock n behind_colon read_behind_colon (record { 
 pub block_grows : Grows a_block
 unfolding a_block
 block_grows n = (block_step OnBlock 0 behind_colon read_behind_colon (record { rule = base 0 _ _ _ _ false (λ j u. u) blocks_zero })).rule.up n (blocks_up n)
+
+-- ---- what is read again and again takes something
+
+pub dotted_name_short : Shrinks reader.read_dotted_name
+dotted_name_short = shrinks_of 0 (λ _. form.dotted_name) (λ _. reader.read_dotted_name) _ _ ((dotted_name_step On 0 inner_annotation read_inner_annotation (inside_at 0 annotations_zero)).rule.law annotations_up)
+
+pub another_short : (n : ℕ) → Shrinks (reader.read_another n (read_inner_annotation n))
+another_short n =
+    shrinks_of n (λ m. form.another m (inner_annotation m)) (λ m. reader.read_another m (read_inner_annotation m)) _ _ ((another_step On n inner_annotation read_inner_annotation (inside_at n (annotations_at n))).rule.law annotations_up)
+
+pub another_part_short : (n : ℕ) → Shrinks (reader.read_another_part n (read_inner_annotation n))
+another_part_short n =
+    shrinks_of n (λ m. form.another_part m (inner_annotation m)) (λ m. reader.read_another_part m (read_inner_annotation m)) _ _ ((another_part_step On n inner_annotation read_inner_annotation (inside_at n (annotations_at n))).rule.law annotations_up)

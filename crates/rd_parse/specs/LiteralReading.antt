@@ -88,3 +88,6 @@ read_inner_literal (suc n) = read_deep n (read_inner_literal n)
 
 abbrev pub read_deep_literal : ℕ → Reader Token Literal
 read_deep_literal n = read_deep n (read_inner_literal n)
+
+unfoldable pub read_literal_text : ℕ → Reader Token Literal
+read_literal_text n = do v ← read_deep_literal n; u ← read_one (is w.Newline); x ← read_one (is w.End); pure v

@@ -8,7 +8,7 @@ use Rattle.rd_value.specs.declared.value.Datum.{Datum}
 use Rattle.rd_value.specs.declared.value.Datum.TheVariants as value
 use Rattle.rd_parse.specs.declared.terminal.Terminal.{Terminal}
 use Rattle.rd_parse.specs.declared.terminal.Terminal.TheVariants as w
-use Rattle.rd_parse.specs.Form.{Form, ◌>>=◌, one, yields, either, many, never, opening, below, tail, more}
+use Rattle.rd_parse.specs.Form.{Form, ◌>>=◌, one, yields, either, many, never, opening, below, tail, more, IsText}
 use Rattle.rd_parse.specs.Such.{such}
 use Rattle.rd_parse.specs.Terminal.{is, text_of, number_of}
 use Rattle.rd_parse.specs.Expressions.{joined, constant_of}
@@ -163,3 +163,11 @@ inner_literal (suc n) = deep n (inner_literal n)
 
 unfoldable pub deep_literal : ℕ → Form Token Literal
 deep_literal n = deep n (inner_literal n)
+
+-- deep literal NEWLINE END
+abbrev pub literal_text : ℕ → Form Token Literal
+literal_text n = do v ← deep_literal n; u ← one (is w.Newline); x ← one (is w.End); yields v
+
+-- the tokens spell the literal alone, and no more than 64 levels are open anywhere in it
+unfoldable pub IsLiteral : List Token → Literal → Type 0
+IsLiteral ts v = IsText literal_text 64 v ts

@@ -69,16 +69,16 @@ read_function n = do task ← read_decorated n; x ← read_head n; body ← read
 -- ---- imports
 
 unfoldable pub read_part_of_path : Reader Token (Unit {0})
-read_part_of_path = do u ← read_one (is w.Dot); name ← read_one name_of; pure tt
+read_part_of_path = do u ← read_one (is w.Dot); read_one (is w.Name)
 
-unfoldable pub read_another_name : Reader Token Name
-read_another_name = do u ← read_one (is w.Comma); read_one name_of
+unfoldable pub read_another_name : Reader Token (Unit {0})
+read_another_name = do u ← read_one (is w.Comma); read_one (is w.Name)
 
 unfoldable pub read_names : Reader Token (Unit {0})
-read_names = do first ← read_one name_of; more ← read_many (hits (is w.Comma)) read_another_name; pure tt
+read_names = do first ← read_one (is w.Name); more ← read_many (hits (is w.Comma)) read_another_name; pure tt
 
 unfoldable pub read_names_in : ℕ → Reader Token (Unit {0})
-read_names_in n = do u ← read_opening (is w.LeftParen) n; first ← read_one name_of; more ← read_more (is w.Comma) (hits name_of) (read_one name_of); v ← read_one (is w.RightParen); pure tt
+read_names_in n = do u ← read_opening (is w.LeftParen) n; first ← read_one (is w.Name); more ← read_more (is w.Comma) (hits (is w.Name)) (read_one (is w.Name)); v ← read_one (is w.RightParen); pure tt
 
 unfoldable pub read_import_line : ℕ → Reader Token (Unit {0})
 read_import_line n = do
@@ -86,7 +86,7 @@ read_import_line n = do
   v ← read_one redun_word
   path ← read_many (hits (is w.Dot)) read_part_of_path
   x ← read_one (is w.Import)
-  y ← read_either (hits name_of) read_names (read_names_in n)
+  y ← read_either (hits (is w.Name)) read_names (read_names_in n)
   z ← read_one (is w.Newline)
   pure tt
 

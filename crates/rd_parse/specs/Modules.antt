@@ -120,19 +120,19 @@ function n = do task ← decorated n; x ← head n; body ← a_block n; yields (
 
 -- `.` NAME
 abbrev pub part_of_path : Form Token (Unit {0})
-part_of_path = do u ← one (is w.Dot); name ← one name_of; yields tt
+part_of_path = do u ← one (is w.Dot); one (is w.Name)
 
 -- `,` NAME
-abbrev pub another_name : Form Token Name
-another_name = do u ← one (is w.Comma); one name_of
+abbrev pub another_name : Form Token (Unit {0})
+another_name = do u ← one (is w.Comma); one (is w.Name)
 
 -- NAME { `,` NAME }
 abbrev pub names : Form Token (Unit {0})
-names = do first ← one name_of; more ← many another_name; yields tt
+names = do first ← one (is w.Name); more ← many another_name; yields tt
 
 -- `(` NAME { `,` NAME } [`,`] `)`
 abbrev pub names_in : ℕ → Form Token (Unit {0})
-names_in n = do u ← opening (is w.LeftParen) n; first ← one name_of; more ← more (is w.Comma) (one name_of); v ← one (is w.RightParen); yields tt
+names_in n = do u ← opening (is w.LeftParen) n; first ← one (is w.Name); more ← more (is w.Comma) (one (is w.Name)); v ← one (is w.RightParen); yields tt
 
 -- `from` `redun` { `.` NAME } `import` ( names | names_in ) NEWLINE
 abbrev pub import_line : ℕ → Form Token (Unit {0})

@@ -1,7 +1,7 @@
--- Forms that tell of which tokens a text is made.
+-- Forms that tell of which tokens a text is made, and readers that keep nothing.
 use Rattle.std.specs.Prelude.{◌≡◌, ◌-◌, Bool, true, ◌&&◌, List, [], ◌∷◌, ◌++◌, length, take, Ok}
 use Rattle.rd_parse.specs.Form.{Form}
-use Rattle.rd_parse.specs.Reader.{Reader, and_then}
+use Rattle.rd_parse.specs.Reader.{Reader, and_then, read_made, read_many}
 
 abbrev pub every : {T : Type 0} → (T → Bool) → List T → Bool
 every s [] = true
@@ -17,3 +17,7 @@ before ts rest = take (length ts - length rest) ts
 
 abbrev pub read_noting : {T A : Type 0} → (T → Bool) → Reader T A → Reader T (Bool × A)
 read_noting s f = λ ts. and_then (f ts) (λ a rest. Ok ((every s (before ts rest), a), rest))
+
+-- any number of them, of which nothing is kept
+abbrev pub read_past : {T A : Type 0} → (T → Bool) → Reader T A → Reader T (Unit {0})
+read_past s f = read_made (λ more. tt) (read_many s f)

@@ -5,7 +5,7 @@ use Rattle.rd_parse.specs.declared.terminal.Terminal.TheVariants as w
 use Rattle.rd_parse.specs.declared.tree.Name.{Name}
 use Rattle.rd_parse.specs.declared.tree.Statement.TheVariants as statement
 use Rattle.rd_parse.specs.Reader.{Reader, holds, hits, ◌>>=◌, pure, read_one, read_either, read_pick, read_many, read_opening, read_below, too_deep}
-use Rattle.rd_parse.specs.Noting.{read_noting}
+use Rattle.rd_parse.specs.Noting.{read_noting, read_past}
 use Rattle.rd_parse.specs.Terminal.{is, among, name_of, text_of}
 use Rattle.rd_parse.specs.Expressions.{Tree, begins_expression}
 use Rattle.rd_parse.specs.Reading.{read_expression}
@@ -13,24 +13,24 @@ use Rattle.rd_parse.specs.Statements.{Command, begins_assignment, plus_value, sp
 
 -- ---- annotations
 
+unfoldable pub read_dotted_name : Reader Token (Unit {0})
+read_dotted_name = do u ← read_one (is w.Dot); read_one (is w.Name)
+
+unfoldable pub read_long_name : Reader Token (Unit {0})
+read_long_name = do u ← read_one (is w.Name); read_past (hits (is w.Dot)) read_dotted_name
+
+unfoldable pub read_kind : Reader Token (Unit {0})
+read_kind = read_either (hits (is w.Name)) read_long_name (read_either (hits (is w.Nothing)) (read_one (is w.Nothing)) (read_one (is w.Text)))
+
 module _ (n : ℕ) (inside : Reader Token (Unit {0})) where
-  unfoldable pub read_dotted_name : Reader Token (Unit {0})
-  read_dotted_name = do u ← read_one (is w.Dot); name ← read_one name_of; pure tt
-
-  unfoldable pub read_long_name : Reader Token (Unit {0})
-  read_long_name = do name ← read_one name_of; more ← read_many (hits (is w.Dot)) read_dotted_name; pure tt
-
-  unfoldable pub read_quoted_name : Reader Token (Unit {0})
-  read_quoted_name = do t ← read_one text_of; pure tt
-
-  unfoldable pub read_kind : Reader Token (Unit {0})
-  read_kind = read_either (hits name_of) read_long_name (read_either (hits (is w.Nothing)) (read_one (is w.Nothing)) read_quoted_name)
-
   unfoldable pub read_another : Reader Token (Unit {0})
   read_another = do u ← read_one (is w.Comma); inside
 
+  unfoldable pub read_others : Reader Token (Unit {0})
+  read_others = read_past (hits (is w.Comma)) read_another
+
   unfoldable pub read_of_kinds : Reader Token (Unit {0})
-  read_of_kinds = do u ← read_opening (is w.LeftSquare) n; first ← inside; more ← read_many (hits (is w.Comma)) read_another; v ← read_one (is w.RightSquare); pure tt
+  read_of_kinds = do u ← read_opening (is w.LeftSquare) n; v ← inside; x ← read_others; y ← read_one (is w.RightSquare); pure tt
 
   unfoldable pub read_union_part : Reader Token (Unit {0})
   read_union_part = do u ← read_kind; read_either (hits (is w.LeftSquare)) read_of_kinds (pure tt)
@@ -39,7 +39,7 @@ module _ (n : ℕ) (inside : Reader Token (Unit {0})) where
   read_another_part = do u ← read_one (is w.Bar); read_union_part
 
   unfoldable pub read_union : Reader Token (Unit {0})
-  read_union = do u ← read_union_part; more ← read_many (hits (is w.Bar)) read_another_part; pure tt
+  read_union = do u ← read_union_part; read_past (hits (is w.Bar)) read_another_part
 
 unfoldable pub read_inner_annotation : ℕ → Reader Token (Unit {0})
 read_inner_annotation zero = too_deep

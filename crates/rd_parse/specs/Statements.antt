@@ -27,30 +27,30 @@ begins_part w.Nothing = true
 begins_part w.Text = true
 begins_part _ = false
 
+-- `.` NAME
+abbrev pub dotted_name : Form Token (Unit {0})
+dotted_name = do u ← one (is w.Dot); one (is w.Name)
+
+-- NAME { `.` NAME }
+abbrev pub long_name : Form Token (Unit {0})
+long_name = do u ← one (is w.Name); more ← many dotted_name; yields tt
+
+-- long_name | `None` | TEXT
+abbrev pub kind : Form Token (Unit {0})
+kind = either long_name (either (one (is w.Nothing)) (one (is w.Text)))
+
 module _ (n : ℕ) (inside : Form Token (Unit {0})) where
-  -- `.` NAME
-  abbrev pub dotted_name : Form Token (Unit {0})
-  dotted_name = do u ← one (is w.Dot); name ← one name_of; yields tt
-
-  -- NAME { `.` NAME }
-  abbrev pub long_name : Form Token (Unit {0})
-  long_name = do name ← one name_of; more ← many dotted_name; yields tt
-
-  -- TEXT
-  abbrev pub quoted_name : Form Token (Unit {0})
-  quoted_name = do t ← one text_of; yields tt
-
-  -- long_name | `None` | TEXT
-  abbrev pub kind : Form Token (Unit {0})
-  kind = either long_name (either (one (is w.Nothing)) quoted_name)
-
   -- `,` annotation
   abbrev pub another : Form Token (Unit {0})
   another = do u ← one (is w.Comma); inside
 
-  -- `[` annotation { `,` annotation } `]`
+  -- { `,` annotation }
+  abbrev pub others : Form Token (Unit {0})
+  others = do more ← many another; yields tt
+
+  -- `[` annotation others `]`
   abbrev pub of_kinds : Form Token (Unit {0})
-  of_kinds = do u ← opening (is w.LeftSquare) n; first ← inside; more ← many another; v ← one (is w.RightSquare); yields tt
+  of_kinds = do u ← opening (is w.LeftSquare) n; v ← inside; x ← others; y ← one (is w.RightSquare); yields tt
 
   -- kind [ of_kinds ]
   abbrev pub union_part : Form Token (Unit {0})

@@ -1,6 +1,7 @@
 //! From tokens to trees.
 #![tactic(auto)]
 
+mod annotation;
 mod halt;
 mod take;
 mod terminal;
