@@ -18,6 +18,7 @@ use Rattle.rd_parse.specs.ModuleReading as reader
 use Rattle.rd_parse.specs.ModuleReading.{read_module}
 use Rattle.rd_parse.proofs.Laws.{Grows, Lawful}
 use Rattle.rd_parse.proofs.Depth.{below_grows, below_zero, below_suc}
+use Rattle.rd_parse.proofs.Loops.{Shrinks, shrinks_of}
 use Rattle.rd_parse.proofs.Rules.{base}
 use Rattle.rd_parse.proofs.Sets.{holds_one, holds_same, set}
 use Rattle.rd_parse.proofs.Samples.{sample, example}
@@ -206,28 +207,36 @@ module _ (n : ℕ) where
 
   -- ---- imports
 
-  part_of_path_step : Of (λ _. form.part_of_path) (λ _. reader.read_part_of_path) (w.Dot ∷ []) [] false
+  pub part_of_path_step : Of (λ _. form.part_of_path) (λ _. reader.read_part_of_path) (w.Dot ∷ []) [] false
   unfolding reader.read_part_of_path
   part_of_path_step = then refl (takes Free n w.Dot) (λ u. takes Free n w.Name)
 
-  another_name_step : Of (λ _. form.another_name) (λ _. reader.read_another_name) (w.Comma ∷ []) [] false
+  path_step : Of (λ _. form.path) (λ _. reader.read_path) (w.Dot ∷ []) (w.Dot ∷ []) true
+  unfolding reader.read_path
+  path_step = then refl (each (hits (is w.Dot)) (tests w.Dot) refl part_of_path_step) (λ more. makes Free n tt)
+
+  pub another_name_step : Of (λ _. form.another_name) (λ _. reader.read_another_name) (w.Comma ∷ []) [] false
   unfolding reader.read_another_name
   another_name_step = then refl (takes Free n w.Comma) (λ u. takes Free n w.Name)
 
   names_step : Of (λ _. form.names) (λ _. reader.read_names) (w.Name ∷ []) (w.Comma ∷ []) false
   unfolding reader.read_names
-  names_step = then refl (takes Free n w.Name) (λ a. then refl (each (hits (is w.Comma)) (tests w.Comma) refl another_name_step) (λ more. makes Free n tt))
+  names_step = then refl (takes Free n w.Name) (λ u. then refl (each (hits (is w.Comma)) (tests w.Comma) refl another_name_step) (λ more. makes Free n tt))
+
+  names_behind_step : Of (λ _. form.names_behind) (λ _. reader.read_names_behind) (w.Comma ∷ []) (w.Comma ∷ w.Name ∷ []) true
+  unfolding reader.read_names_behind
+  names_behind_step = wide refl refl (then refl (commas (hits (is w.Name)) (tests w.Name) refl refl (takes Free n w.Name)) (λ more. makes Free n tt))
 
   names_in_step : Of form.names_in reader.read_names_in (w.LeftParen ∷ []) [] false
   unfolding reader.read_names_in
-  names_in_step = then refl (opens_with Free n w.LeftParen) (λ u. then refl (takes Free n w.Name) (λ a. then refl (commas (hits (is w.Name)) (tests w.Name) refl refl (takes Free n w.Name)) (λ more. then refl (takes Free n w.RightParen) (λ v. makes Free n tt))))
+  names_in_step = then refl (opens_with Free n w.LeftParen) (λ u. then refl (takes Free n w.Name) (λ v. then refl names_behind_step (λ x. takes Free n w.RightParen)))
 
   import_step : Of form.import_line reader.read_import_line (w.From ∷ []) [] false
   unfolding reader.read_import_line
   import_step =
       then refl (takes Free n w.From) (λ u. then refl (carries Free n redun_word (w.Name ∷ []) (spelled (codes "redun")) tt redun_there redun_within)
-      (λ v. then refl (each (hits (is w.Dot)) (tests w.Dot) refl part_of_path_step) (λ path. then refl (takes Free n w.Import)
-      (λ x. then refl (chooses (hits (is w.Name)) (tests w.Name) refl names_step names_in_step) (λ y. then refl (takes Free n w.Newline) (λ z. makes Free n tt))))))
+      (λ v. then refl path_step (λ p. then refl (takes Free n w.Import)
+      (λ x. then refl (chooses (hits (is w.Name)) (tests w.Name) refl names_step names_in_step) (λ y. takes Free n w.Newline)))))
 
   -- ---- modules
 
@@ -262,3 +271,11 @@ module_lawful n = (module_step n).rule.law (λ j. tt)
 
 pub module_grows : Grows module_form
 module_grows n = (module_step 0).rule.up n tt
+
+-- ---- what is read again and again takes something
+
+pub part_of_path_short : Shrinks reader.read_part_of_path
+part_of_path_short = shrinks_of 0 (λ _. form.part_of_path) (λ _. reader.read_part_of_path) _ _ ((part_of_path_step 0).rule.law (λ j. tt))
+
+pub another_name_short : Shrinks reader.read_another_name
+another_name_short = shrinks_of 0 (λ _. form.another_name) (λ _. reader.read_another_name) _ _ ((another_name_step 0).rule.law (λ j. tt))

@@ -1,13 +1,12 @@
 -- Readers of many of which nothing is kept, as a loop reads them.
 use Rattle.std.proofs.Common.{◌≡◌, Bool, true, false, List, [], Ok, Err, sym, ap, ◌∙◌}
 use Rattle.rd_syntax.specs.declared.token.Token.{Token}
-use Rattle.rd_parse.specs.Reader.{Stop, Refused, Deep, Outcome, Reader, sees, and_then, pure, read_many}
+use Rattle.rd_parse.specs.Reader.{Stop, Reader, sees, hits, and_then, pure, read_one, read_made, read_many, read_more}
+use Rattle.rd_parse.specs.declared.terminal.Terminal.TheVariants as w
+use Rattle.rd_parse.specs.Terminal.{is}
 use Rattle.rd_parse.specs.Noting.{read_past}
-use Rattle.rd_parse.specs.Gives.{Fails}
-use Rattle.rd_parse.specs.declared.halt.Halt.{Halt}
-use Rattle.rd_parse.specs.declared.halt.Halt.TheVariants as halt
 use Rattle.rd_parse.proofs.Flat.{assoc}
-use Rattle.rd_parse.proofs.Loops.{Shrinks, plain_goes_on, plain_stops, plain_done}
+use Rattle.rd_parse.proofs.Loops.{Shrinks, plain_goes_on, plain_stops, plain_done, signed_goes_on, taken_short}
 
 module _ {A : Type 0} (s : Token → Bool) (g : Reader Token A) (short : Shrinks g) where
   abbrev drop_all : List A → Reader Token (Unit {0})
@@ -22,7 +21,19 @@ module _ {A : Type 0} (s : Token → Bool) (g : Reader Token A) (short : Shrinks
   pub past_done : (ts : List Token) → sees s ts ≡ false → read_past s g ts ≡ Ok (tt, ts)
   past_done ts n = sym (assoc (read_many s g ts) (λ more. pure more) drop_all) ∙ ap (λ r. and_then r drop_all) (plain_done s g short [] ts n)
 
-  pub past_fails : (ts : List Token) (h : Halt) (total : Outcome Token (Unit {0})) → sees s ts ≡ true → Fails h (g ts) → read_past s g ts ≡ total → Fails h total
-  past_fails ts halt.Memory total y e w = tt
-  past_fails ts (halt.Refused r) total y e w = sym w ∙ past_stops ts (Refused r.now) y e
-  past_fails ts (halt.Deep r) total y e w = sym w ∙ past_stops ts (Deep r.now) y e
+-- ---- names behind commas
+
+abbrev pub names_past : Reader Token (Unit {0})
+names_past = read_made (λ more. tt) (read_more (is w.Comma) (hits (is w.Name)) (read_one (is w.Name)))
+
+name_short : (s : Unit {0}) → Shrinks (read_one (is w.Name))
+name_short s = taken_short (is w.Name)
+
+abbrev forget : List (Unit {0}) → Reader Token (Unit {0})
+forget all = pure tt
+
+pub names_go_on : (ts behind mid : List Token) → read_one (is w.Comma) ts ≡ Ok (tt, behind) → sees (hits (is w.Name)) behind ≡ true → read_one (is w.Name) behind ≡ Ok (tt, mid) → names_past ts ≡ names_past mid
+names_go_on ts behind mid e y d =
+    sym (assoc (read_more (is w.Comma) (hits (is w.Name)) (read_one (is w.Name)) ts) (λ more. pure more) forget)
+    ∙ ap (λ r. and_then r forget) (signed_goes_on (is w.Comma) (λ (s : Unit {0}). hits (is w.Name)) (λ (s : Unit {0}). read_one (is w.Name)) (λ (s : Unit {0}) (a : Unit {0}). s) name_short [] tt ts behind tt e mid tt y d)
+    ∙ assoc (read_more (is w.Comma) (hits (is w.Name)) (read_one (is w.Name)) mid) (λ more. pure _) forget

@@ -7,7 +7,8 @@ use Rattle.rd_parse.specs.declared.tree.Parameter.{Parameter}
 use Rattle.rd_parse.specs.declared.tree.TaskOption.{TaskOption}
 use Rattle.rd_parse.specs.declared.tree.Function.{Function}
 use Rattle.rd_parse.specs.declared.tree.Module.{Module}
-use Rattle.rd_parse.specs.Reader.{Reader, hits, ◌>>=◌, pure, read_one, read_either, read_many, read_opening, read_below, read_more, read_tail}
+use Rattle.rd_parse.specs.Reader.{read_made, Reader, hits, ◌>>=◌, pure, read_one, read_either, read_many, read_opening, read_below, read_more, read_tail}
+use Rattle.rd_parse.specs.Noting.{read_past}
 use Rattle.rd_parse.specs.Terminal.{is, among, name_of, text_of}
 use Rattle.rd_parse.specs.LiteralReading.{read_literal, read_inner_literal, read_texts}
 use Rattle.rd_parse.specs.StatementReading.{read_annotation, read_annotated, read_a_block}
@@ -71,24 +72,29 @@ read_function n = do task ← read_decorated n; x ← read_head n; body ← read
 unfoldable pub read_part_of_path : Reader Token (Unit {0})
 read_part_of_path = do u ← read_one (is w.Dot); read_one (is w.Name)
 
+unfoldable pub read_path : Reader Token (Unit {0})
+read_path = read_past (hits (is w.Dot)) read_part_of_path
+
 unfoldable pub read_another_name : Reader Token (Unit {0})
 read_another_name = do u ← read_one (is w.Comma); read_one (is w.Name)
 
 unfoldable pub read_names : Reader Token (Unit {0})
-read_names = do first ← read_one (is w.Name); more ← read_many (hits (is w.Comma)) read_another_name; pure tt
+read_names = do u ← read_one (is w.Name); read_past (hits (is w.Comma)) read_another_name
+
+unfoldable pub read_names_behind : Reader Token (Unit {0})
+read_names_behind = read_made (λ more. tt) (read_more (is w.Comma) (hits (is w.Name)) (read_one (is w.Name)))
 
 unfoldable pub read_names_in : ℕ → Reader Token (Unit {0})
-read_names_in n = do u ← read_opening (is w.LeftParen) n; first ← read_one (is w.Name); more ← read_more (is w.Comma) (hits (is w.Name)) (read_one (is w.Name)); v ← read_one (is w.RightParen); pure tt
+read_names_in n = do u ← read_opening (is w.LeftParen) n; v ← read_one (is w.Name); x ← read_names_behind; read_one (is w.RightParen)
 
 unfoldable pub read_import_line : ℕ → Reader Token (Unit {0})
 read_import_line n = do
   u ← read_one (is w.From)
   v ← read_one redun_word
-  path ← read_many (hits (is w.Dot)) read_part_of_path
+  p ← read_path
   x ← read_one (is w.Import)
   y ← read_either (hits (is w.Name)) read_names (read_names_in n)
-  z ← read_one (is w.Newline)
-  pure tt
+  read_one (is w.Newline)
 
 -- ---- modules
 

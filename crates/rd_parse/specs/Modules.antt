@@ -122,28 +122,35 @@ function n = do task ← decorated n; x ← head n; body ← a_block n; yields (
 abbrev pub part_of_path : Form Token (Unit {0})
 part_of_path = do u ← one (is w.Dot); one (is w.Name)
 
+-- { part_of_path }
+abbrev pub path : Form Token (Unit {0})
+path = do more ← many part_of_path; yields tt
+
 -- `,` NAME
 abbrev pub another_name : Form Token (Unit {0})
 another_name = do u ← one (is w.Comma); one (is w.Name)
 
 -- NAME { `,` NAME }
 abbrev pub names : Form Token (Unit {0})
-names = do first ← one (is w.Name); more ← many another_name; yields tt
+names = do u ← one (is w.Name); more ← many another_name; yields tt
 
--- `(` NAME { `,` NAME } [`,`] `)`
+-- { `,` NAME } [`,`]
+abbrev pub names_behind : Form Token (Unit {0})
+names_behind = do more ← more (is w.Comma) (one (is w.Name)); yields tt
+
+-- `(` NAME names_behind `)`
 abbrev pub names_in : ℕ → Form Token (Unit {0})
-names_in n = do u ← opening (is w.LeftParen) n; first ← one (is w.Name); more ← more (is w.Comma) (one (is w.Name)); v ← one (is w.RightParen); yields tt
+names_in n = do u ← opening (is w.LeftParen) n; v ← one (is w.Name); x ← names_behind; one (is w.RightParen)
 
--- `from` `redun` { `.` NAME } `import` ( names | names_in ) NEWLINE
+-- `from` `redun` path `import` ( names | names_in ) NEWLINE
 abbrev pub import_line : ℕ → Form Token (Unit {0})
 import_line n = do
   u ← one (is w.From)
   v ← one redun_word
-  path ← many part_of_path
+  p ← path
   x ← one (is w.Import)
   y ← either names (names_in n)
-  z ← one (is w.Newline)
-  yields tt
+  one (is w.Newline)
 
 -- ---- modules
 

@@ -3,6 +3,7 @@
 
 mod annotation;
 mod halt;
+mod import;
 mod take;
 mod terminal;
 pub mod tree;
