@@ -1,3 +1,12 @@
+pub mod InnerAnnotation
+pub mod Past
+pub mod Texts
+pub mod Modules
+pub mod Literals
+pub mod Numbers
+pub mod Such
+pub mod Noting
+pub mod Statements
 pub mod Laws
 pub mod More
 pub mod Many

@@ -1,3 +1,11 @@
+pub mod Modules
+pub mod ModuleReading
+pub mod Such
+pub mod Literals
+pub mod LiteralReading
+pub mod Noting
+pub mod Statements
+pub mod StatementReading
 pub mod Form
 pub mod Reader
 pub mod Gives

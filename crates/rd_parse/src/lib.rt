@@ -1,7 +1,9 @@
 //! From tokens to trees.
 #![tactic(auto)]
 
+mod annotation;
 mod halt;
+mod import;
 mod take;
 mod terminal;
 pub mod tree;

@@ -1,0 +1,66 @@
+-- What the tokens of a whole module, or of a whole literal, are read as.
+use Rattle.std.proofs.Common.{◌≡◌, ℕ, false, List, [], Ok, Err, sym, subst, ◌∙◌, ◌≢◌}
+use Rattle.rd_syntax.specs.declared.token.Token.{Token}
+use Rattle.rd_parse.specs.declared.tree.Module.{Module}
+use Rattle.rd_parse.specs.Form.{StopsAt}
+use Rattle.rd_parse.specs.Reader.{Stop, Refused}
+use Rattle.rd_parse.specs.Literals.{Literal, literal_text, IsLiteral}
+use Rattle.rd_parse.specs.LiteralReading.{read_literal_text}
+use Rattle.rd_parse.specs.Modules.{module_form, IsModule}
+use Rattle.rd_parse.specs.ModuleReading.{read_module}
+use Rattle.rd_parse.proofs.Laws.{got_value, got_rest}
+use Rattle.rd_parse.proofs.Whole.{text_found, text_only, one_value, text_refused, text_more}
+use Rattle.rd_parse.proofs.Literals.{literal_text_lawful, literal_text_grows}
+use Rattle.rd_parse.proofs.Modules.{module_lawful, module_grows}
+
+abbrev levels : ℕ
+levels = 64
+
+-- ---- modules
+
+pub module_found : (ts rest : List Token) (m : Module) → read_module 64 ts ≡ Ok (m, rest) → rest ≡ [] → IsModule ts m
+unfolding IsModule
+module_found ts rest m e none = text_found module_form read_module _ _ false module_grows module_lawful levels m ts (subst (λ (r : List Token). read_module 64 ts ≡ Ok (m, r)) none e)
+
+pub module_only : (ts : List Token) (m : Module) → IsModule ts m → read_module 64 ts ≡ Ok (m, [])
+unfolding IsModule
+module_only ts m h = text_only module_form read_module _ _ false module_grows module_lawful levels m ts h
+
+-- what was read is the only module
+pub module_is : (ts rest : List Token) (m n : Module) → read_module 64 ts ≡ Ok (m, rest) → IsModule ts n → m ≡ n
+module_is ts rest m n e h = got_value m n rest [] (sym e ∙ module_only ts n h)
+
+-- tokens behind the module are refused
+pub module_longer : (ts rest : List Token) (m n : Module) → rest ≢ [] → read_module 64 ts ≡ Ok (m, rest) → IsModule ts n → ⊥
+module_longer ts rest m n some e h = some (got_rest m n rest [] (sym e ∙ module_only ts n h))
+
+-- what isn't read is no module
+pub module_not_read : (ts : List Token) (s : Stop Token) (n : Module) → read_module 64 ts ≡ Err s → IsModule ts n → ⊥
+module_not_read ts s n e h = let no : read_module 64 ts ≡ Ok (n, []) = module_only ts n h in cc
+
+-- tokens spell at most one module
+pub one_module : (ts : List Token) (m n : Module) → IsModule ts m → IsModule ts n → m ≡ n
+unfolding IsModule
+one_module ts m n h k = one_value module_form read_module _ _ false module_grows module_lawful levels levels m n ts h k
+
+-- where reading stops, no module's tokens go on
+pub module_refused : (ts after : List Token) → read_module 64 ts ≡ Err (Refused after) → StopsAt module_form ts after
+module_refused ts after e = text_refused module_form read_module _ _ false module_grows module_lawful levels ts after e
+
+pub module_stops : (ts after : List Token) (m : Module) → after ≢ [] → read_module 64 ts ≡ Ok (m, after) → StopsAt module_form ts after
+module_stops ts after m some e = text_more module_form read_module _ _ false module_grows module_lawful levels ts m after some e
+
+-- ---- literals
+
+pub literal_found : (ts rest : List Token) (v : Literal) → read_literal_text 64 ts ≡ Ok (v, rest) → rest ≡ [] → IsLiteral ts v
+unfolding IsLiteral
+literal_found ts rest v e none = text_found literal_text read_literal_text _ _ false literal_text_grows literal_text_lawful levels v ts (subst (λ (r : List Token). read_literal_text 64 ts ≡ Ok (v, r)) none e)
+
+pub literal_only : (ts : List Token) (v : Literal) → IsLiteral ts v → read_literal_text 64 ts ≡ Ok (v, [])
+unfolding IsLiteral
+literal_only ts v h = text_only literal_text read_literal_text _ _ false literal_text_grows literal_text_lawful levels v ts h
+
+-- tokens spell at most one literal
+pub one_literal : (ts : List Token) (v u : Literal) → IsLiteral ts v → IsLiteral ts u → v ≡ u
+unfolding IsLiteral
+one_literal ts v u h k = one_value literal_text read_literal_text _ _ false literal_text_grows literal_text_lawful levels levels v u ts h k

@@ -1,0 +1,15 @@
+use Rattle.std.proofs.Common.{sym, ◌∙◌}
+use Rattle.rd_parse.specs.declared.terminal.Terminal.TheVariants as w
+use Rattle.rd_parse.specs.Reader.{hits}
+use Rattle.rd_parse.specs.Terminal.{is}
+use Rattle.rd_parse.specs.ModuleReading.{read_another_name}
+use Rattle.rd_parse.proofs.Past.{past_goes_on}
+use Rattle.rd_parse.proofs.Modules.{another_name_short}
+use Rattle.rd_parse.proofs.import.other_names.Goals as goal
+
+pub loop-rest-smaller : goal.loop-rest-smaller
+loop-rest-smaller c = another_name_short tt c.loop-rest.rest.now c.in_ok-rest.rest.now c.in_ok-rest.ensures
+
+pub loop-rest-preserved : goal.loop-rest-preserved
+loop-rest-preserved c =
+    sym (past_goes_on (hits (is w.Comma)) read_another_name another_name_short c.loop-rest.rest.now c.in_ok-rest.rest.now tt (sym c.begins_with.ensures ∙ c.loop-rest-test.true) c.in_ok-rest.ensures) ∙ c.loop-rest.invariant
