@@ -1,6 +1,7 @@
+pub mod Room
 pub mod InnerAnnotation
 pub mod Past
-pub mod Texts
+pub mod WholeTexts
 pub mod Modules
 pub mod Literals
 pub mod Numbers

@@ -202,7 +202,7 @@ any_there : (new : ℕ → Bool) (top : ℕ) → any_new new top ≡ true → (m
 any_there new zero h = (0, omega arith, h)
 any_there new (suc top) h = elim (way (new (suc top))) [ inl y ↦ (suc top, omega arith, y) | inr n ↦ let d = any_there new top (rw n at h) in (d.0, omega (arith, d.1), d.2) ]
 
-none_there : (new : ℕ → Bool) (top : ℕ) → any_new new top ≡ false → (m : ℕ) → m ≤ top → new m ≡ false
+pub none_there : (new : ℕ → Bool) (top : ℕ) → any_new new top ≡ false → (m : ℕ) → m ≤ top → new m ≡ false
 none_there new zero h zero le = h
 none_there new zero h (suc m) le = absurd (omega arith)
 none_there new (suc top) h m le =
