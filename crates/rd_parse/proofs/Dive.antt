@@ -1,12 +1,12 @@
 -- Where reading stops at a token that opens one level too many.
-use Rattle.std.proofs.Common.{◌≡◌, ℕ, zero, suc, ◌+◌, ◌≤◌, ◌<◌, Bool, true, false, cond, List, [], ◌∷◌, ◌++◌, length, Option, Some, None, Ok, Err, refl, sym, ap, subst, ◌∙◌, append_assoc, arith, inl, inr, ◌⊎◌, length-append}
+use Rattle.std.proofs.Common.{◌≡◌, ℕ, zero, suc, ◌+◌, Bool, true, false, cond, List, [], ◌∷◌, ◌++◌, Option, Some, None, Ok, Err, refl, sym, ap, subst, ◌∙◌, append_assoc, arith, inl, inr, ◌⊎◌}
 use Rattle.rd_parse.specs.Form.{Form, one, yields, bound, either, opening, below}
-use Rattle.rd_parse.specs.Reader.{Stop, Refused, Deep, Outcome, Reader, head, holds, sees, hits, and_then, ◌>>=◌, pure, took, read_one, read_either, read_opening, read_below}
+use Rattle.rd_parse.specs.Reader.{Refused, Deep, Outcome, Reader, head, holds, sees, hits, and_then, ◌>>=◌, pure, took, read_one, read_either, read_opening, read_below}
 use Rattle.rd_parse.specs.Such.{such, passed, read_such}
 use Rattle.rd_parse.specs.Noting.{every, noting, before, read_noting}
 use Rattle.rd_parse.proofs.Laws.{Grows, Completes, Found, Lawful, got, head_append, raise}
 use Rattle.rd_parse.proofs.More.{by_true, by_false, way}
-use Rattle.rd_parse.proofs.Depth.{deeper_some, Same}
+use Rattle.rd_parse.proofs.Depth.{deeper_some, down_zero, Same}
 
 abbrev pub sunk : {T A : Type 0} → List T → Outcome T A
 sunk rest = Err (Deep rest)
@@ -197,6 +197,14 @@ down_dives bad n P f d ts rest e =
       | inl x ↦ inl (record { used = x.used; token = x.token; after = x.after; parts = x.parts; left = x.left; completes = deeper_some P _ x.completes; sinks = x.sinks })
       | inr b ↦ inr b
     ]
+
+-- the laws of what stands one level further in
+pub record Below {T A : Type 0} (n : ℕ) (P : ℕ → Form T A) (f : ℕ → Reader T A) (first more : T → Bool) (null : Bool) : Type 0 where
+  pub law : Lawful n P f first more null
+  pub dives : Dives (n ≡ 0) n P f
+
+pub nothing_below : {T A : Type 0} (P : ℕ → Form T A) (f : ℕ → Reader T A) (fp mp : T → Bool) (np : Bool) → ((a : A) (ts rest : List T) → P 0 a ts rest → ⊥) → ((ts : List T) → f 0 ts ≡ Err (Deep ts)) → Completes P [] → Below 0 P f fp mp np
+nothing_below P f fp mp np none deep some = record { law = down_zero P f fp mp np none deep some; dives = λ ts rest e. inr refl }
 
 -- one level further in, where no level may open there is nothing to be read
 pub below_dives : {T A : Type 0} (P : ℕ → Form T A) (f : ℕ → Reader T A) → ((n : ℕ) → Dives ⊥ n P f) → (n : ℕ) → Dives (n ≡ 0) n (below P) (read_below f)

@@ -1,8 +1,8 @@
 -- Repetitions, and choices by two tokens, where a token opens one level too many.
-use Rattle.std.proofs.Common.{◌≡◌, ℕ, zero, suc, ◌+◌, ◌≤◌, ◌<◌, Bool, true, false, ◌&&◌, cond, List, [], ◌∷◌, ◌++◌, length, Option, Some, Ok, Err, refl, sym, ap, subst, ◌∙◌, append_assoc, arith, inl, inr, ◌⊎◌, length-append}
+use Rattle.std.proofs.Common.{◌≡◌, ℕ, zero, suc, ◌+◌, ◌≤◌, ◌<◌, Bool, true, false, ◌&&◌, cond, List, [], ◌∷◌, ◌++◌, length, Option, Some, Ok, refl, sym, ap, subst, ◌∙◌, append_assoc, arith, inl, inr, ◌⊎◌, length-append}
 use Rattle.rd_parse.specs.Form.{Form, one, either, many, tail}
-use Rattle.rd_parse.specs.Reader.{Outcome, Reader, head, holds, sees, hits, and_then, ◌>>=◌, pure, read_one, read_many_by, read_many, read_tail_by, read_tail, pair, read_pick}
-use Rattle.rd_parse.proofs.Laws.{Grows, Completes, Found, Lawful, got, head_append, raise, one_lawful}
+use Rattle.rd_parse.specs.Reader.{Reader, head, holds, sees, hits, and_then, ◌>>=◌, pure, read_one, read_many_by, read_many, read_tail_by, read_tail, pair, read_pick}
+use Rattle.rd_parse.proofs.Laws.{Grows, Completes, Found, Lawful, head_append, raise, one_lawful}
 use Rattle.rd_parse.proofs.More.{begins, by_true, by_false, way}
 use Rattle.rd_parse.proofs.Many.{many_grows}
 use Rattle.rd_parse.proofs.Dive.{Sinks, Dive, Dives, sunk, bind_deep, not_sunk, one_not, split_here}
@@ -202,9 +202,11 @@ module _ {T S C A : Type 0} (bad : Type 0) (n : ℕ) (c : T → Option C) (sign 
             subst (λ (ts : List T). Sinks (by_signs s turns) ts) (sym all)
             (from_suc (λ turns. Sinks (by_signs s turns) (g.used ++ (p.used ++ next))) (length (g.used ++ (p.used ++ next)))
             (λ turns le.
-            let s' = d.sinks turns k (omega (arith, le, long, length-append g.used (p.used ++ next), length-append p.used next)) in
-            (s'.0, item_turn s turns u (g.used ++ (p.used ++ next)) (p.used ++ next) (one_sees u _ _ (g.anywhere (p.used ++ next))) (g.steady n (p.used ++ next) (omega arith) there)
-            (begins n (P s) (f s) (fp s) mp (lp s) a _ _ (p.anywhere next)) ∙ rw (p.steady n next (omega arith) here, s'.1) refl))
+            let s' = d.sinks turns k (omega (arith, le, long, length-append g.used (p.used ++ next), length-append p.used next)) in (
+              s'.0,
+              item_turn s turns u (g.used ++ (p.used ++ next)) (p.used ++ next) (one_sees u _ _ (g.anywhere (p.used ++ next))) (g.steady n (p.used ++ next) (omega arith) there)
+                  (begins n (P s) (f s) (fp s) mp (lp s) a _ _ (p.anywhere next)) ∙ rw (p.steady n next (omega arith) here, s'.1) refl,
+            ))
             turns (subst (λ (ts : List T). length ts < turns) all lt));
       }
 
