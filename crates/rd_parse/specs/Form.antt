@@ -94,3 +94,13 @@ pub record StopsAt {T A : Type 0} (P : ℕ → Form T A) (ts after : List T) : T
   pub parts : ts ≡ before ++ after
   pub viable : Viable P before
   pub stuck : IsStuck P before after
+
+-- The first of the tokens left opens one level more than so many. With a level more some text begins with the tokens up to this one, and within the levels none does.
+pub record TooDeep {T A : Type 0} (P : ℕ → Form T A) (n : ℕ) (ts after : List T) : Type 0 where
+  pub before : List T
+  pub token : T
+  pub behind : List T
+  pub parts : ts ≡ before ++ token ∷ behind
+  pub left : after ≡ token ∷ behind
+  pub viable : Viable P (before ++ token ∷ [])
+  pub closed : (more : List T) (a : A) → IsText P n a (before ++ token ∷ more) → ⊥
