@@ -1,12 +1,12 @@
 -- Where reading stops at a token that opens one level too many.
-use Rattle.std.proofs.Common.{◌≡◌, ℕ, zero, suc, ◌+◌, Bool, true, false, cond, List, [], ◌∷◌, ◌++◌, Option, Some, None, Ok, Err, refl, sym, ap, subst, ◌∙◌, append_assoc, arith, inl, inr, ◌⊎◌}
+use Rattle.std.proofs.Common.{◌≡◌, ℕ, zero, suc, Bool, true, false, cond, List, [], ◌∷◌, ◌++◌, Option, Some, None, Ok, Err, refl, sym, ap, subst, ◌∙◌, append_assoc, arith, inl, inr, ◌⊎◌}
 use Rattle.rd_parse.specs.Form.{Form, one, yields, bound, either, opening, below}
 use Rattle.rd_parse.specs.Reader.{Refused, Deep, Outcome, Reader, head, holds, sees, hits, and_then, ◌>>=◌, pure, took, read_one, read_either, read_opening, read_below}
 use Rattle.rd_parse.specs.Such.{such, passed, read_such}
 use Rattle.rd_parse.specs.Noting.{every, noting, before, read_noting}
 use Rattle.rd_parse.proofs.Laws.{Grows, Completes, Found, Lawful, got, head_append, raise}
 use Rattle.rd_parse.proofs.More.{by_true, by_false, way}
-use Rattle.rd_parse.proofs.Depth.{deeper_some, down_zero, Same}
+use Rattle.rd_parse.proofs.Depth.{down_zero, Same}
 
 abbrev pub sunk : {T A : Type 0} → List T → Outcome T A
 sunk rest = Err (Deep rest)
@@ -15,14 +15,27 @@ sunk rest = Err (Deep rest)
 abbrev pub Sinks : {T A : Type 0} → Reader T A → List T → Type 0
 Sinks {T} f ts = (rest : List T) × (f ts ≡ sunk rest)
 
--- With more levels the tokens go on behind the one at which reading stopped. Within these levels they don't, whatever comes behind it.
+-- What was read can be completed within so many levels, whatever comes then.
+pub record Ends {T A : Type 0} (n : ℕ) (P : ℕ → Form T A) (used : List T) : Type 0 where
+  pub by_ : List T
+  pub value : A
+  pub gives : (k : List T) → P n value (used ++ (by_ ++ k)) k
+
+-- One level is enough for some text.
+abbrev pub Brief : {T A : Type 0} → (ℕ → Form T A) → Type 0
+Brief P = Ends 1 P []
+
+pub brief_some : {T A : Type 0} (P : ℕ → Form T A) → Brief P → Completes P []
+brief_some P b = record { depth = 1; by_ = b.by_; value = b.value; gives = b.gives }
+
+-- With one level more the tokens go on behind the one at which reading stopped. Within these levels they don't, whatever comes behind it.
 pub record Dive {T A : Type 0} (n : ℕ) (P : ℕ → Form T A) (f : ℕ → Reader T A) (ts rest : List T) : Type 0 where
   pub used : List T
   pub token : T
   pub after : List T
   pub parts : ts ≡ used ++ token ∷ after
   pub left : rest ≡ token ∷ after
-  pub completes : Completes P (used ++ token ∷ [])
+  pub completes : Ends (suc n) P (used ++ token ∷ [])
   pub sinks : (k : List T) → Sinks (f n) (used ++ token ∷ k)
 
 -- What is Deep is so by a token, or by what `bad` says.
@@ -82,7 +95,7 @@ opening_dives {A = A} bad zero o (t ∷ ts) rest e =
       after = ts;
       parts = refl;
       left = sym d.1;
-      completes = record { depth = 1; by_ = []; value = v.0; gives = λ k. (v.1, refl) };
+      completes = record { by_ = []; value = v.0; gives = λ k. (v.1, refl) };
       sinks = λ k. (t ∷ k, by_true (hits o t) _ _ d.0);
     })
 opening_dives bad (suc n) o ts rest e = absurd (one_not o ts rest e)
@@ -90,7 +103,7 @@ opening_dives bad (suc n) o ts rest e = absurd (one_not o ts rest e)
 -- ---- one after the other
 
 module _ {T A B : Type 0} (bp bq bad : Type 0) (n : ℕ) (P : ℕ → Form T A) (Q : A → ℕ → Form T B) (f : ℕ → Reader T A) (g : A → ℕ → Reader T B) (grows_p : Grows P) (grows_q : (a : A) → Grows (Q a))
-    (found : (a : A) (ts rest : List T) → f n ts ≡ Ok (a, rest) → Found n P f a ts rest) (some : (a : A) → Completes (Q a) []) (dp : Dives bp n P f) (dq : (a : A) → Dives bq n (Q a) (g a))
+    (found : (a : A) (ts rest : List T) → f n ts ≡ Ok (a, rest) → Found n P f a ts rest) (some : (a : A) → Brief (Q a)) (dp : Dives bp n P f) (dq : (a : A) → Dives bq n (Q a) (g a))
     (in_first : bp → bad) (in_second : (a : A) (ts rest : List T) → P n a ts rest → bq → bad) where
   abbrev W : ℕ → Form T B
   W m = bound (P m) (λ a. Q a m)
@@ -109,13 +122,12 @@ module _ {T A B : Type 0} (bp bq bad : Type 0) (n : ℕ) (P : ℕ → Form T A) 
         parts = d.parts;
         left = d.left;
         completes = record {
-          depth = c.depth + q.depth;
           by_ = c.by_ ++ q.by_;
           value = q.value;
           gives = λ k.
               let end : List T = q.by_ ++ k in
               let same : (d.used ++ d.token ∷ []) ++ (c.by_ ++ end) ≡ (d.used ++ d.token ∷ []) ++ ((c.by_ ++ q.by_) ++ k) = ap (λ (r : List T). (d.used ++ d.token ∷ []) ++ r) (sym (append_assoc c.by_ q.by_ k)) in
-              (c.value, end, subst (λ (ts : List T). P (c.depth + q.depth) c.value ts end) same (raise P grows_p c.depth _ c.value _ _ (omega arith) (c.gives end)), raise (Q c.value) (grows_q c.value) q.depth _ q.value _ _ (omega arith) (q.gives k));
+              (c.value, end, subst (λ (ts : List T). P (suc n) c.value ts end) same (c.gives end), raise (Q c.value) (grows_q c.value) 1 _ q.value _ _ (omega arith) (q.gives k));
         };
         sinks = λ k. let s = d.sinks k in (s.0, rw s.1 refl);
       }
@@ -130,14 +142,13 @@ module _ {T A B : Type 0} (bp bq bad : Type 0) (n : ℕ) (P : ℕ → Form T A) 
         parts = p.parts ∙ ap (λ (r : List T). p.used ++ r) d.parts ∙ sym (split_here p.used d.used d.token d.after);
         left = d.left;
         completes = record {
-          depth = n + c.depth;
           by_ = c.by_;
           value = c.value;
           gives = λ k.
               let end : List T = (d.used ++ d.token ∷ []) ++ (c.by_ ++ k) in
               let same : p.used ++ end ≡ ((p.used ++ d.used) ++ d.token ∷ []) ++ (c.by_ ++ k) =
               sym (append_assoc p.used (d.used ++ d.token ∷ []) (c.by_ ++ k)) ∙ ap (λ (u : List T). u ++ (c.by_ ++ k)) (sym (append_assoc p.used d.used (d.token ∷ []))) in
-              (a, end, subst (λ (ts : List T). P (n + c.depth) a ts end) same (raise P grows_p n _ a _ _ (omega arith) (p.anywhere end)), raise (Q a) (grows_q a) c.depth _ c.value _ _ (omega arith) (c.gives k));
+              (a, end, subst (λ (ts : List T). P (suc n) a ts end) same (grows_p n a _ _ (p.anywhere end)), c.gives k);
         };
         sinks = λ k.
             let s = d.sinks k in
@@ -167,7 +178,7 @@ module _ {T A : Type 0} (bad : Type 0) (n : ℕ) (s : T → Bool) (P Q : ℕ →
     after = d.after;
     parts = d.parts;
     left = d.left;
-    completes = record { depth = d.completes.depth; by_ = d.completes.by_; value = d.completes.value; gives = λ k. inl (d.completes.gives k) };
+    completes = record { by_ = d.completes.by_; value = d.completes.value; gives = λ k. inl (d.completes.gives k) };
     sinks = λ k. let r = d.sinks k in (r.0, by_true (sees s (d.used ++ d.token ∷ k)) _ _ (same_test true ts d.used d.after k d.token d.parts e) ∙ r.1);
   }
 
@@ -178,7 +189,7 @@ module _ {T A : Type 0} (bad : Type 0) (n : ℕ) (s : T → Bool) (P Q : ℕ →
     after = d.after;
     parts = d.parts;
     left = d.left;
-    completes = record { depth = d.completes.depth; by_ = d.completes.by_; value = d.completes.value; gives = λ k. inr (d.completes.gives k) };
+    completes = record { by_ = d.completes.by_; value = d.completes.value; gives = λ k. inr (d.completes.gives k) };
     sinks = λ k. let r = d.sinks k in (r.0, by_false (sees s (d.used ++ d.token ∷ k)) _ _ (same_test false ts d.used d.after k d.token d.parts e) ∙ r.1);
   }
 
@@ -194,7 +205,7 @@ module _ {T A : Type 0} (bad : Type 0) (n : ℕ) (s : T → Bool) (P Q : ℕ →
 pub down_dives : {T A : Type 0} (bad : Type 0) (n : ℕ) (P : ℕ → Form T A) (f : ℕ → Reader T A) → Dives bad n (λ m. P (suc m)) (λ m. f (suc m)) → Dives bad (suc n) P f
 down_dives bad n P f d ts rest e =
     elim (d ts rest e) [
-      | inl x ↦ inl (record { used = x.used; token = x.token; after = x.after; parts = x.parts; left = x.left; completes = deeper_some P _ x.completes; sinks = x.sinks })
+      | inl x ↦ inl (record { used = x.used; token = x.token; after = x.after; parts = x.parts; left = x.left; completes = record { by_ = x.completes.by_; value = x.completes.value; gives = x.completes.gives }; sinks = x.sinks })
       | inr b ↦ inr b
     ]
 
@@ -203,8 +214,8 @@ pub record Below {T A : Type 0} (n : ℕ) (P : ℕ → Form T A) (f : ℕ → Re
   pub law : Lawful n P f first more null
   pub dives : Dives (n ≡ 0) n P f
 
-pub nothing_below : {T A : Type 0} (P : ℕ → Form T A) (f : ℕ → Reader T A) (fp mp : T → Bool) (np : Bool) → ((a : A) (ts rest : List T) → P 0 a ts rest → ⊥) → ((ts : List T) → f 0 ts ≡ Err (Deep ts)) → Completes P [] → Below 0 P f fp mp np
-nothing_below P f fp mp np none deep some = record { law = down_zero P f fp mp np none deep some; dives = λ ts rest e. inr refl }
+pub nothing_below : {T A : Type 0} (P : ℕ → Form T A) (f : ℕ → Reader T A) (fp mp : T → Bool) (np : Bool) → ((a : A) (ts rest : List T) → P 0 a ts rest → ⊥) → ((ts : List T) → f 0 ts ≡ Err (Deep ts)) → Brief P → Below 0 P f fp mp np
+nothing_below P f fp mp np none deep some = record { law = down_zero P f fp mp np none deep (brief_some P some); dives = λ ts rest e. inr refl }
 
 -- one level further in, where no level may open there is nothing to be read
 pub below_dives : {T A : Type 0} (P : ℕ → Form T A) (f : ℕ → Reader T A) → ((n : ℕ) → Dives ⊥ n P f) → (n : ℕ) → Dives (n ≡ 0) n (below P) (read_below f)
@@ -220,7 +231,7 @@ recast_dives bad n P Q f g same d ts rest e =
         after = x.after;
         parts = x.parts;
         left = x.left;
-        completes = record { depth = x.completes.depth; by_ = x.completes.by_; value = x.completes.value; gives = λ k. same.there x.completes.depth x.completes.value _ k (x.completes.gives k) };
+        completes = record { by_ = x.completes.by_; value = x.completes.value; gives = λ k. same.there (suc n) x.completes.value _ k (x.completes.gives k) };
         sinks = λ k. let s = x.sinks k in (s.0, sym (same.reads n (x.used ++ x.token ∷ k)) ∙ s.1);
       })
       | inr b ↦ inr b
@@ -232,7 +243,7 @@ passed_not : {T A : Type 0} (b : Bool) (a : A) (mid rest : List T) → passed b 
 passed_not true a mid rest e = cc
 passed_not false a mid rest e = cc
 
-pub such_dives : {T A : Type 0} (bad : Type 0) (n : ℕ) (ok : A → Bool) (P : ℕ → Form T A) (f : ℕ → Reader T A) → ((used : List T) → Completes P used → Completes (λ m. such ok (P m)) used) → Dives bad n P f
+pub such_dives : {T A : Type 0} (bad : Type 0) (n : ℕ) (ok : A → Bool) (P : ℕ → Form T A) (f : ℕ → Reader T A) → ((used : List T) → Ends (suc n) P used → Ends (suc n) (λ m. such ok (P m)) used) → Dives bad n P f
     → Dives bad n (λ m. such ok (P m)) (λ m. read_such ok (f m))
 such_dives bad n ok P f completes d ts rest e =
     elim (bind_deep (f n ts) (λ a rest. passed (ok a) a rest) rest e) [
@@ -243,12 +254,15 @@ such_dives bad n ok P f completes d ts rest e =
       | inr h ↦ absurd (passed_not (ok h.0) h.0 h.1 rest h.3)
     ]
 
-pub noting_dives : {T A : Type 0} (bad : Type 0) (n : ℕ) (s : T → Bool) (P : ℕ → Form T A) (f : ℕ → Reader T A) → ((used : List T) → Completes P used → Completes (λ m. noting s (P m)) used) → Dives bad n P f
+pub noting_ends : {T A : Type 0} (n : ℕ) (s : T → Bool) (P : ℕ → Form T A) (used : List T) → Ends n P used → Ends n (λ m. noting s (P m)) used
+noting_ends n s P used c = record { by_ = c.by_; value = (every s (used ++ c.by_), c.value); gives = λ k. (used ++ c.by_, sym (append_assoc used c.by_ k), refl, c.gives k) }
+
+pub noting_dives : {T A : Type 0} (bad : Type 0) (n : ℕ) (s : T → Bool) (P : ℕ → Form T A) (f : ℕ → Reader T A) → Dives bad n P f
     → Dives bad n (λ m. noting s (P m)) (λ m. read_noting s (f m))
-noting_dives {T} bad n s P f completes d ts rest e =
+noting_dives {T} bad n s P f d ts rest e =
     elim (bind_deep (f n ts) (λ a rest. Ok ((every s (before ts rest), a), rest)) rest e) [
       | inl h ↦ elim (d ts rest h) [
-        | inl x ↦ inl (record { used = x.used; token = x.token; after = x.after; parts = x.parts; left = x.left; completes = completes _ x.completes; sinks = λ k. let s = x.sinks k in (s.0, rw s.1 refl) })
+        | inl x ↦ inl (record { used = x.used; token = x.token; after = x.after; parts = x.parts; left = x.left; completes = noting_ends (suc n) s P _ x.completes; sinks = λ k. let s = x.sinks k in (s.0, rw s.1 refl) })
         | inr b ↦ inr b
       ]
       | inr h ↦ absurd (not_sunk (every s (before ts h.1), h.0) h.1 rest h.3)

@@ -1,20 +1,19 @@
 -- Repetitions, and choices by two tokens, where a token opens one level too many.
-use Rattle.std.proofs.Common.{◌≡◌, ℕ, zero, suc, ◌+◌, ◌≤◌, ◌<◌, Bool, true, false, ◌&&◌, cond, List, [], ◌∷◌, ◌++◌, length, Option, Some, Ok, refl, sym, ap, subst, ◌∙◌, append_assoc, arith, inl, inr, ◌⊎◌, length-append}
+use Rattle.std.proofs.Common.{◌≡◌, ℕ, zero, suc, ◌≤◌, ◌<◌, Bool, true, false, ◌&&◌, cond, List, [], ◌∷◌, ◌++◌, length, Option, Some, Ok, refl, sym, ap, subst, ◌∙◌, append_assoc, arith, inl, inr, ◌⊎◌, length-append}
 use Rattle.rd_parse.specs.Form.{Form, one, either, many, tail}
 use Rattle.rd_parse.specs.Reader.{Reader, head, holds, sees, hits, and_then, ◌>>=◌, pure, read_one, read_many_by, read_many, read_tail_by, read_tail, pair, read_pick}
-use Rattle.rd_parse.proofs.Laws.{Grows, Completes, Found, Lawful, head_append, raise, one_lawful}
+use Rattle.rd_parse.proofs.Laws.{Grows, Found, Lawful, head_append, one_lawful}
 use Rattle.rd_parse.proofs.More.{begins, by_true, by_false, way}
-use Rattle.rd_parse.proofs.Many.{many_grows}
-use Rattle.rd_parse.proofs.Dive.{Sinks, Dive, Dives, sunk, bind_deep, not_sunk, one_not, split_here}
+use Rattle.rd_parse.proofs.Dive.{Ends, Sinks, Dive, Dives, sunk, bind_deep, not_sunk, one_not, split_here}
 
 -- the same, for every number of turns that is enough
-pub record DiveBy {T A : Type 0} (P : ℕ → Form T (List A)) (r : ℕ → Reader T (List A)) (ts rest : List T) : Type 0 where
+pub record DiveBy {T A : Type 0} (n : ℕ) (P : ℕ → Form T (List A)) (r : ℕ → Reader T (List A)) (ts rest : List T) : Type 0 where
   pub used : List T
   pub token : T
   pub after : List T
   pub parts : ts ≡ used ++ token ∷ after
   pub left : rest ≡ token ∷ after
-  pub completes : Completes P (used ++ token ∷ [])
+  pub completes : Ends (suc n) P (used ++ token ∷ [])
   pub sinks : (turns : ℕ) (k : List T) → length (used ++ token ∷ k) < turns → Sinks (r turns) (used ++ token ∷ k)
 
 from_suc : (Q : ℕ → Type 0) (below_ : ℕ) → ((turns : ℕ) → below_ ≤ turns → Q (suc turns)) → (turns : ℕ) → below_ < turns → Q turns
@@ -33,21 +32,21 @@ module _ {T A : Type 0} (bad : Type 0) (n : ℕ) (P : ℕ → Form T A) (f : ℕ
   some_used : (a : A) (used : List T) → P n a (used ++ []) [] → 0 < length used
   some_used a used h = omega (arith, lp.shrinks a (used ++ []) [] h, length-append used [])
 
-  first : (ts rest : List T) → sees fp ts ≡ true → Dive n P f ts rest → DiveBy (λ m. many (P m)) by_turns ts rest
+  first : (ts rest : List T) → sees fp ts ≡ true → Dive n P f ts rest → DiveBy n (λ m. many (P m)) by_turns ts rest
   first ts rest y d = record {
     used = d.used;
     token = d.token;
     after = d.after;
     parts = d.parts;
     left = d.left;
-    completes = record { depth = d.completes.depth; by_ = d.completes.by_; value = d.completes.value ∷ []; gives = λ k. (k, d.completes.gives k, refl) };
+    completes = record { by_ = d.completes.by_; value = d.completes.value ∷ []; gives = λ k. (k, d.completes.gives k, refl) };
     sinks = λ turns k lt.
         let s = d.sinks k in
         from_suc (λ turns. Sinks (by_turns turns) (d.used ++ d.token ∷ k)) (length (d.used ++ d.token ∷ k))
         (λ turns le. (s.0, by_true (sees fp (d.used ++ d.token ∷ k)) _ _ (sym (ap (holds fp) (same_head ts d.used d.after k d.token d.parts)) ∙ y) ∙ rw s.1 refl)) turns lt;
   }
 
-  later : (a : A) (ts mid rest : List T) → Found n P f a ts mid → DiveBy (λ m. many (P m)) by_turns mid rest → DiveBy (λ m. many (P m)) by_turns ts rest
+  later : (a : A) (ts mid rest : List T) → Found n P f a ts mid → DiveBy n (λ m. many (P m)) by_turns mid rest → DiveBy n (λ m. many (P m)) by_turns ts rest
   later a ts mid rest p d =
       let c = d.completes in
       record {
@@ -57,14 +56,13 @@ module _ {T A : Type 0} (bad : Type 0) (n : ℕ) (P : ℕ → Form T A) (f : ℕ
         parts = p.parts ∙ ap (λ (r : List T). p.used ++ r) d.parts ∙ sym (split_here p.used d.used d.token d.after);
         left = d.left;
         completes = record {
-          depth = n + c.depth;
           by_ = c.by_;
           value = a ∷ c.value;
           gives = λ k.
               let end : List T = (d.used ++ d.token ∷ []) ++ (c.by_ ++ k) in
               let same : p.used ++ end ≡ ((p.used ++ d.used) ++ d.token ∷ []) ++ (c.by_ ++ k) =
               sym (append_assoc p.used (d.used ++ d.token ∷ []) (c.by_ ++ k)) ∙ ap (λ (u : List T). u ++ (c.by_ ++ k)) (sym (append_assoc p.used d.used (d.token ∷ []))) in
-              (end, subst (λ (ts : List T). P (n + c.depth) a ts end) same (raise P grows n _ a _ _ (omega arith) (p.anywhere end)), raise (λ m. many (P m)) (many_grows P grows) c.depth _ c.value _ _ (omega arith) (c.gives k));
+              (end, subst (λ (ts : List T). P (suc n) a ts end) same (grows n a _ _ (p.anywhere end)), c.gives k);
         };
         sinks = λ turns k lt.
             let next : List T = d.used ++ d.token ∷ k in
@@ -79,7 +77,7 @@ module _ {T A : Type 0} (bad : Type 0) (n : ℕ) (P : ℕ → Form T A) (f : ℕ
             turns (subst (λ (ts : List T). length ts < turns) all lt));
       }
 
-  many_dives_by : (turns : ℕ) (ts rest : List T) → length ts < turns → by_turns turns ts ≡ sunk rest → DiveBy (λ m. many (P m)) by_turns ts rest ⊎ bad
+  many_dives_by : (turns : ℕ) (ts rest : List T) → length ts < turns → by_turns turns ts ≡ sunk rest → DiveBy n (λ m. many (P m)) by_turns ts rest ⊎ bad
   many_dives_by zero ts rest lt e = absurd (omega arith)
   many_dives_by (suc turns) ts rest lt e =
       elim (way (sees fp ts)) [
@@ -113,10 +111,6 @@ module _ {T S C A : Type 0} (bad : Type 0) (n : ℕ) (c : T → Option C) (sign 
   abbrev by_signs : S → ℕ → Reader T (List A)
   by_signs s turns = read_tail_by c fp (λ s. f s n) step turns s
 
-  raise_tail : (s : S) → Grows (T' s)
-  raise_tail s m [] ts rest h = h
-  raise_tail s m (a ∷ more) ts rest h = (h.0, h.1, h.2, h.3, grows s m a h.1 h.3 h.4, raise_tail (step s a) m more h.3 rest h.5)
-
   one_sees : (u : C) (ts rest : List T) → one c u ts rest → sees (hits c) ts ≡ true
   one_sees u [] rest h = absurd h
   one_sees u (t ∷ ts) rest h = rw h.0 refl
@@ -136,7 +130,7 @@ module _ {T S C A : Type 0} (bad : Type 0) (n : ℕ) (c : T → Option C) (sign 
       → by_signs s (suc turns) w ≡ and_then (f s n x) (λ a. read_tail_by c fp (λ s. f s n) step turns (step s a) >>= λ more. pure (a ∷ more))
   item_turn s turns u w x y e z = by_true (sees (hits c) w) _ _ y ∙ rw e (by_true (sees (fp s) x) _ _ z)
 
-  bad_item : (s : S) (u : C) (ts x rest : List T) → Sign u ts x → sees (fp s) x ≡ true → Dive n (P s) (f s) x rest → DiveBy (T' s) (by_signs s) ts rest
+  bad_item : (s : S) (u : C) (ts x rest : List T) → Sign u ts x → sees (fp s) x ≡ true → Dive n (P s) (f s) x rest → DiveBy n (T' s) (by_signs s) ts rest
   bad_item s u ts x rest g z d =
       let c' = d.completes in
       record {
@@ -146,7 +140,6 @@ module _ {T S C A : Type 0} (bad : Type 0) (n : ℕ) (c : T → Option C) (sign 
         parts = g.parts ∙ ap (λ (r : List T). g.used ++ r) d.parts ∙ sym (split_here g.used d.used d.token d.after);
         left = d.left;
         completes = record {
-          depth = c'.depth;
           by_ = c'.by_;
           value = c'.value ∷ [];
           gives = λ k.
@@ -167,7 +160,7 @@ module _ {T S C A : Type 0} (bad : Type 0) (n : ℕ) (c : T → Option C) (sign 
             turns (subst (λ (ts : List T). length ts < turns) all lt));
       }
 
-  next_item : (s : S) (u : C) (a : A) (ts x mid rest : List T) → Sign u ts x → Found n (P s) (f s) a x mid → DiveBy (T' (step s a)) (by_signs (step s a)) mid rest → DiveBy (T' s) (by_signs s) ts rest
+  next_item : (s : S) (u : C) (a : A) (ts x mid rest : List T) → Sign u ts x → Found n (P s) (f s) a x mid → DiveBy n (T' (step s a)) (by_signs (step s a)) mid rest → DiveBy n (T' s) (by_signs s) ts rest
   next_item s u a ts x mid rest g p d =
       let c' = d.completes in
       let both : List T = g.used ++ p.used in
@@ -178,7 +171,6 @@ module _ {T S C A : Type 0} (bad : Type 0) (n : ℕ) (c : T → Option C) (sign 
         parts = g.parts ∙ ap (λ (r : List T). g.used ++ r) (p.parts ∙ ap (λ (r : List T). p.used ++ r) d.parts) ∙ sym (append_assoc g.used p.used (d.used ++ d.token ∷ d.after)) ∙ sym (split_here both d.used d.token d.after);
         left = d.left;
         completes = record {
-          depth = n + c'.depth;
           by_ = c'.by_;
           value = a ∷ c'.value;
           gives = λ k.
@@ -189,8 +181,8 @@ module _ {T S C A : Type 0} (bad : Type 0) (n : ℕ) (c : T → Option C) (sign 
                 p.used ++ end,
                 subst (λ (ts : List T). one c u ts (p.used ++ end)) same (g.anywhere (p.used ++ end)),
                 end,
-                raise (P s) (grows s) n _ a _ _ (omega arith) (p.anywhere end),
-                raise (T' (step s a)) (raise_tail (step s a)) c'.depth _ c'.value _ _ (omega arith) (c'.gives k),
+                grows s n a _ _ (p.anywhere end),
+                c'.gives k,
               );
         };
         sinks = λ turns k lt.
@@ -210,7 +202,7 @@ module _ {T S C A : Type 0} (bad : Type 0) (n : ℕ) (c : T → Option C) (sign 
             turns (subst (λ (ts : List T). length ts < turns) all lt));
       }
 
-  tail_dives_by : (turns : ℕ) (s : S) (ts rest : List T) → length ts < turns → by_signs s turns ts ≡ sunk rest → DiveBy (T' s) (by_signs s) ts rest ⊎ bad
+  tail_dives_by : (turns : ℕ) (s : S) (ts rest : List T) → length ts < turns → by_signs s turns ts ≡ sunk rest → DiveBy n (T' s) (by_signs s) ts rest ⊎ bad
   tail_dives_by zero s ts rest lt e = absurd (omega arith)
   tail_dives_by (suc turns) s ts rest lt e =
       elim (way (sees (hits c) ts)) [
@@ -293,7 +285,7 @@ module _ {T A : Type 0} (bad : Type 0) (n : ℕ) (a : T → Bool) (b : Option T 
     after = d.after;
     parts = d.parts;
     left = d.left;
-    completes = record { depth = d.completes.depth; by_ = d.completes.by_; value = d.completes.value; gives = λ k. inl (d.completes.gives k) };
+    completes = record { by_ = d.completes.by_; value = d.completes.value; gives = λ k. inl (d.completes.gives k) };
     sinks = λ k. chosen d.used d.after k d.token (sym (ap (pair a b) d.parts) ∙ y) d.sinks;
   }
 
@@ -306,7 +298,7 @@ module _ {T A : Type 0} (bad : Type 0) (n : ℕ) (a : T → Bool) (b : Option T 
           after = d.after;
           parts = d.parts;
           left = d.left;
-          completes = record { depth = d.completes.depth; by_ = d.completes.by_; value = d.completes.value; gives = λ k. inr (d.completes.gives k) };
+          completes = record { by_ = d.completes.by_; value = d.completes.value; gives = λ k. inr (d.completes.gives k) };
           sinks = λ k. other d.used d.after k d.token (sym (ap (pair a b) d.parts) ∙ y) t (d.sinks k);
         })
         | inr x ↦ inr x

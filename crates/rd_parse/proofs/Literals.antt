@@ -30,7 +30,7 @@ use Rattle.rd_parse.proofs.Steps.{Step, Inward, settled, one_further, from_outsi
 use Rattle.rd_parse.proofs.Expressions.{text_is, number_within}
 use Rattle.rd_parse.proofs.Numbers.{spelling, number_small}
 use Rattle.rd_parse.proofs.Such.{such_lawful}
-use Rattle.rd_parse.proofs.Dive.{Below, Dives, nothing_below, below_dives, such_dives, recast_dives}
+use Rattle.rd_parse.proofs.Dive.{Below, Brief, brief_some, Dives, nothing_below, below_dives, such_dives, recast_dives}
 
 -- ---- sets of tokens
 
@@ -80,7 +80,7 @@ constant_within : (t : Token) → hits constant_of t ≡ true → set constant_f
 unfolding set
 constant_within t h = constant_by (terminal t) h
 
-constant_there : constant_of (example w.Nothing) ≡ Some value.Nothing
+pub constant_there : constant_of (example w.Nothing) ≡ Some value.Nothing
 unfolding terminal
 constant_there = refl
 
@@ -292,7 +292,8 @@ module _ (U : ℕ → Type 0) (n : ℕ) (keys : List Literal) where
           let l = (texts_step U n).rule.law x in
           such_lawful n (new_text keys) (λ _. form.texts) (λ _. reader.read_texts) _ _ false l (texts_longer keys) (texts_complete keys [] l.some) (texts_complete keys);
     };
-    dives = λ x. such_dives ⊥ n (new_text keys) (λ _. form.texts) (λ _. reader.read_texts) (texts_complete keys) ((texts_step U n).dives x);
+    dives = λ x. such_dives ⊥ n (new_text keys) (λ _. form.texts) (λ _. reader.read_texts) (λ used c. let d = texts_complete keys used (record { depth = 1; by_ = c.by_; value = c.value; gives = c.gives }) in record { by_ = d.by_; value = d.value; gives = d.gives }) ((texts_step U n).dives x);
+    brief = let d = texts_complete keys [] (brief_some (λ _. form.texts) (texts_step U n).brief) in record { by_ = d.by_; value = d.value; gives = d.gives };
   }
 
   text_key_step : Step U n (λ _. form.text_key keys) (λ _. reader.read_text_key keys) (w.Text ∷ []) (w.Text ∷ []) false
@@ -315,6 +316,7 @@ module _ (U : ℕ → Type 0) (n : ℕ) (keys : List Literal) where
   recast_key b c P there back s = record {
     rule = record { up = λ j u. key_up j; law = λ x. recast n P (form.key keys) _ _ _ _ false (record { there = there; back = back; reads = λ m ts. refl }) (s.rule.law x) };
     dives = λ x. recast_dives ⊥ n P (form.key keys) _ _ (record { there = there; back = back; reads = λ m ts. refl }) (s.dives x);
+    brief = record { by_ = s.brief.by_; value = s.brief.value; gives = λ k. there 1 s.brief.value _ k (s.brief.gives k) };
   }
 
   no_number : has_number keys ≡ false → (a : Literal) (ts rest : List Token) → form.number_key keys a ts rest → ⊥
@@ -379,6 +381,7 @@ module _ (U : ℕ → Type 0) (n : ℕ) (X : ℕ → Form Token Literal) (F : �
       law = λ x. below_key_law keys n (λ m. (key_step U m keys).rule.law x);
     };
     dives = λ x. below_dives (form.key keys) (reader.read_key keys) (λ m. (key_step U m keys).dives x) n;
+    brief = let t = (text_key_step U n keys).brief in record { by_ = t.by_; value = t.value; gives = λ k. inr (inr (t.gives k)) };
   }
 
   pair_step : (keys : List Literal) → Within (λ m l. form.pair m l keys) (λ m l. reader.read_pair m l keys) key_first (w.Text ∷ []) false
@@ -402,9 +405,9 @@ module _ (U : ℕ → Type 0) (n : ℕ) (X : ℕ → Form Token Literal) (F : �
 
 -- ---- deep literals at every level
 
-inner_some : Completes inner_literal []
+pub inner_some : Brief inner_literal
 unfolding inner_literal
-inner_some = record { depth = 1; by_ = example w.Nothing ∷ []; value = value.Nothing; gives = λ k. inl (inr (inr (inr (constant_there, refl)))) }
+inner_some = record { by_ = example w.Nothing ∷ []; value = value.Nothing; gives = λ k. inl (inr (inr (inr (constant_there, refl)))) }
 
 abbrev On : ℕ → Type 0
 On j = Up j inner_literal
@@ -413,7 +416,7 @@ abbrev Inner : ℕ → Type 0
 Inner n = Below n inner_literal read_inner_literal (set literal_first) (set (w.Text ∷ [])) false
 
 deep_at : (n : ℕ) → Inner n → Step On n (λ m. form.deep m (inner_literal m)) (λ m. reader.read_deep m (read_inner_literal m)) literal_first (w.Text ∷ []) false
-deep_at n l = deep_step On n inner_literal read_inner_literal (one_further n _ _ (λ j u. u) l)
+deep_at n l = deep_step On n inner_literal read_inner_literal (one_further n _ _ (λ j u. u) l inner_some)
 
 inner_zero : Inner 0
 unfolding inner_literal read_inner_literal
@@ -440,6 +443,10 @@ deep_dives : (n : ℕ) → Dives ⊥ n deep_literal read_deep_literal
 unfolding deep_literal
 deep_dives n = (deep_at n (inner_literal_laws n)).dives inner_up
 
+deep_brief : Brief deep_literal
+unfolding deep_literal
+deep_brief = (deep_at 0 inner_zero).brief
+
 pub deep_grows : Grows deep_literal
 unfolding deep_literal
 deep_grows n = (deep_at 0 inner_zero).rule.up n (inner_up n)
@@ -449,7 +456,7 @@ deep_grows n = (deep_at 0 inner_zero).rule.up n (inner_up n)
 text_of_literal : (n : ℕ) → Step (λ j. Unit {0}) n form.literal_text reader.read_literal_text literal_first [] false
 unfolding reader.read_literal_text
 text_of_literal n =
-    let value : Step (λ j. Unit {0}) n deep_literal read_deep_literal literal_first (w.Text ∷ []) false = settled n _ _ deep_grows (deep_lawful n) (deep_dives n) in
+    let value : Step (λ j. Unit {0}) n deep_literal read_deep_literal literal_first (w.Text ∷ []) false = settled n _ _ deep_grows (deep_lawful n) (deep_dives n) deep_brief in
     wide refl refl (then refl value (λ v. then refl (takes (λ j. Unit {0}) n w.Newline) (λ u. then refl (takes (λ j. Unit {0}) n w.End) (λ x. makes (λ j. Unit {0}) n v))))
 
 pub literal_text_lawful : (n : ℕ) → Lawful n form.literal_text reader.read_literal_text (set literal_first) (set []) false

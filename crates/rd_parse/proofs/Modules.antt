@@ -1,8 +1,9 @@
 -- The rules of functions and modules are lawful.
-use Rattle.std.proofs.Common.{◌≡◌, ℕ, zero, suc, Bool, true, false, not, List, [], ◌∷◌, None, Some, refl, codes, sym, ◌∙◌}
+use Rattle.std.proofs.Common.{◌≡◌, ℕ, zero, suc, Bool, true, false, not, List, [], ◌∷◌, None, Some, refl, codes, sym, ◌∙◌, inr}
 use Rattle.rd_syntax.specs.declared.token.TokenKind.TheVariants as kind
 use Rattle.rd_syntax.specs.declared.token.Token.{Token}
 use Rattle.rd_parse.specs.declared.terminal.Terminal.{Terminal}
+use Rattle.rd_value.specs.declared.value.Datum.TheVariants as value
 use Rattle.rd_parse.specs.declared.terminal.Terminal.TheVariants as w
 use Rattle.rd_parse.specs.declared.tree.Name.{Name}
 use Rattle.rd_parse.specs.Form.{Form, one, below}
@@ -19,13 +20,13 @@ use Rattle.rd_parse.specs.ModuleReading.{read_module}
 use Rattle.rd_parse.proofs.Laws.{Grows, Lawful}
 use Rattle.rd_parse.proofs.Depth.{below_grows, below_zero, below_suc}
 use Rattle.rd_parse.proofs.Loops.{Shrinks, shrinks_of}
-use Rattle.rd_parse.proofs.Dive.{Dives, below_dives}
+use Rattle.rd_parse.proofs.Dive.{Brief, Dives, below_dives}
 use Rattle.rd_parse.proofs.Sets.{holds_one, holds_same, set}
 use Rattle.rd_parse.proofs.Samples.{sample, example}
 use Rattle.rd_parse.proofs.Steps.{Step, Inward, settled, one_further, opens_then, wide, carries, takes, makes, then, chooses, each, tests, commas, commas_by}
 use Rattle.rd_parse.proofs.Expressions.{name_is, text_is, name_there}
-use Rattle.rd_parse.proofs.Literals.{literal_first, plain_first, literal_step, texts_step, inner_literal_laws, inner_literal_grows}
-use Rattle.rd_parse.proofs.Statements.{part_first, annotation_more, annotation_lawful, annotation_dives, annotation_grows, annotated_step, block_lawful, block_dives, block_grows}
+use Rattle.rd_parse.proofs.Literals.{literal_first, plain_first, literal_step, constant_there, texts_step, inner_literal_laws, inner_some, inner_literal_grows}
+use Rattle.rd_parse.proofs.Statements.{part_first, annotation_more, annotation_lawful, annotation_dives, annotation_brief, annotation_grows, annotated_step, block_lawful, block_dives, block_brief, block_grows}
 
 -- ---- single tokens
 
@@ -111,6 +112,14 @@ below_annotated : (n : ℕ) → Lawful n (below annotated) (read_below read_anno
 below_annotated zero = below_zero annotated read_annotated _ _ true (annotated_law 0).some
 below_annotated (suc n) = below_suc n annotated read_annotated _ _ true (annotated_law n)
 
+-- what needs no level
+nothing_alone : Brief (below literal)
+nothing_alone = record { by_ = example w.Nothing ∷ []; value = value.Nothing; gives = λ k. inr (inr (inr (constant_there, refl))) }
+
+none_annotated : (k : List Token) → annotated 0 tt k k
+unfolding annotated
+none_annotated k = inr (refl, refl)
+
 -- the forms hold by themselves
 abbrev Free : ℕ → Type 0
 Free j = Unit {0}
@@ -128,7 +137,7 @@ module _ (n : ℕ) where
   -- ---- options
 
   value_step : Within inner_literal read_inner_literal literal_first (w.Text ∷ []) false
-  value_step = one_further n _ _ (λ j u. inner_literal_grows j) (inner_literal_laws n)
+  value_step = one_further n _ _ (λ j u. inner_literal_grows j) (inner_literal_laws n) inner_some
 
   option_step : Within form.option reader.read_option (w.Name ∷ []) (w.Text ∷ []) false
   unfolding reader.read_option
@@ -156,10 +165,10 @@ module _ (n : ℕ) where
   -- ---- parameters
 
   plain_step : Within (below literal) (read_below read_literal) plain_first (w.Text ∷ []) false
-  plain_step = one_further n _ _ (λ j u. below_grows literal literal_grows j) (record { law = below_literal n; dives = below_dives literal read_literal literal_dives n })
+  plain_step = one_further n _ _ (λ j u. below_grows literal literal_grows j) (record { law = below_literal n; dives = below_dives literal read_literal literal_dives n }) nothing_alone
 
   annotation_step : Within (below annotated) (read_below read_annotated) (w.Colon ∷ []) (w.Colon ∷ annotation_more) true
-  annotation_step = one_further n _ _ (λ j u. below_grows annotated annotated_grows j) (record { law = below_annotated n; dives = below_dives annotated read_annotated annotated_dives n })
+  annotation_step = one_further n _ _ (λ j u. below_grows annotated annotated_grows j) (record { law = below_annotated n; dives = below_dives annotated read_annotated annotated_dives n }) (record { by_ = []; value = tt; gives = λ k. none_annotated k })
 
   with_default_step : (name : Name) → Within (λ m. form.with_default m name) (λ m. reader.read_with_default m name) (w.Assign ∷ []) (w.Text ∷ []) false
   unfolding reader.read_with_default
@@ -195,7 +204,7 @@ module _ (n : ℕ) where
   -- ---- functions
 
   kind_step : Of annotation read_annotation part_first annotation_more false
-  kind_step = settled n _ _ annotation_grows (annotation_lawful n) (annotation_dives n)
+  kind_step = settled n _ _ annotation_grows (annotation_lawful n) (annotation_dives n) annotation_brief
 
   returned_step : Of form.returned reader.read_returned (w.Arrow ∷ []) (w.Arrow ∷ annotation_more) true
   unfolding reader.read_returned
@@ -208,7 +217,7 @@ module _ (n : ℕ) where
       (λ line. then refl a_name (λ name. opens_then Free n w.LeftParen refl (λ u. then refl parameters_step (λ all. then refl (takes Free n w.RightParen) (λ v. then refl returned_step (λ x. makes Free n (at_line name line, all))))))))
 
   block_step : Of a_block read_a_block (w.Colon ∷ []) [] false
-  block_step = settled n _ _ block_grows (block_lawful n) (block_dives n)
+  block_step = settled n _ _ block_grows (block_lawful n) (block_dives n) block_brief
 
   function_step : Of form.function reader.read_function (w.At ∷ w.Def ∷ []) [] false
   unfolding reader.read_function

@@ -11,8 +11,8 @@ use Rattle.rd_parse.specs.Expressions as form
 use Rattle.rd_parse.specs.Expressions.{Tree, Level, level}
 use Rattle.rd_parse.specs.Reading as reader
 use Rattle.rd_parse.specs.Reading.{Readers, inner}
-use Rattle.rd_parse.proofs.Laws.{Grows, Completes, Lawful}
-use Rattle.rd_parse.proofs.Dive.{Below, Dives, nothing_below}
+use Rattle.rd_parse.proofs.Laws.{Grows, Lawful}
+use Rattle.rd_parse.proofs.Dive.{Below, Brief, Dives, nothing_below}
 use Rattle.rd_parse.proofs.Rules.{Up}
 use Rattle.rd_parse.proofs.Sets.{set, sets_apart}
 use Rattle.rd_parse.proofs.Samples.{example}
@@ -44,31 +44,28 @@ module _ (n : ℕ) (in_ : Level) (name : Name) (t : Token) (rest : List Token) (
 abbrev some_name : Name
 some_name = record { text = codes "path"; line = 0 }
 
-abbrev AtName : (ℕ → Form Token Tree) → Type 0
-AtName P = Completes P []
+completes_by : (P : ℕ → Form Token Tree) → ((k : List Token) → P 1 (node.Name some_name) (example w.Name ∷ k) k) → Brief P
+completes_by P h = record { by_ = example w.Name ∷ []; value = node.Name some_name; gives = h }
 
-completes_by : (P : ℕ → Form Token Tree) → ((k : List Token) → P 1 (node.Name some_name) (example w.Name ∷ k) k) → Completes P []
-completes_by P h = record { depth = 1; by_ = example w.Name ∷ []; value = node.Name some_name; gives = h }
-
-expression_some : Completes (λ m. (level m).expression) []
+expression_some : Brief (λ m. (level m).expression)
 unfolding level
 expression_some = completes_by (λ m. (level m).expression) (λ k. lone_expression 0 (level 0) some_name (example w.Name) k name_there)
 
-disjunction_some : Completes (λ m. (level m).disjunction) []
+disjunction_some : Brief (λ m. (level m).disjunction)
 unfolding level
 disjunction_some = completes_by (λ m. (level m).disjunction) (λ k. lone_disjunction 0 (level 0) some_name (example w.Name) k name_there)
 
-inversion_some : Completes (λ m. (level m).inversion) []
+inversion_some : Brief (λ m. (level m).inversion)
 unfolding level
 inversion_some = completes_by (λ m. (level m).inversion) (λ k. lone_inversion 0 (level 0) some_name (example w.Name) k name_there)
 
-factor_some : Completes (λ m. (level m).factor) []
+factor_some : Brief (λ m. (level m).factor)
 unfolding level
 factor_some = completes_by (λ m. (level m).factor) (λ k. lone_factor 0 (level 0) some_name (example w.Name) k name_there)
 
-parts_some : (e : Tree) → Completes (λ m. (level m).parts e) []
+parts_some : (e : Tree) → Brief (λ m. (level m).parts e)
 unfolding level
-parts_some e = record { depth = 1; by_ = []; value = e; gives = λ k. inr (refl, refl) }
+parts_some e = record { by_ = []; value = e; gives = λ k. inr (refl, refl) }
 
 -- ---- the laws of what stands one level further in
 
@@ -88,19 +85,19 @@ pub record Ups (j : ℕ) : Type 0 where
 
 module _ (n : ℕ) (l : Inside n) (lone : Lone n level inner) where
   expression_inside : Inward Ups n (λ m. (level m).expression) (λ m. (inner m).expression) first expression_more false
-  expression_inside = one_further n _ _ (λ j u. u.expression) l.expression
+  expression_inside = one_further n _ _ (λ j u. u.expression) l.expression expression_some
 
   disjunction_inside : Inward Ups n (λ m. (level m).disjunction) (λ m. (inner m).disjunction) first disjunction_more false
-  disjunction_inside = one_further n _ _ (λ j u. u.disjunction) l.disjunction
+  disjunction_inside = one_further n _ _ (λ j u. u.disjunction) l.disjunction disjunction_some
 
   inversion_inside : Inward Ups n (λ m. (level m).inversion) (λ m. (inner m).inversion) first comparison_more false
-  inversion_inside = one_further n _ _ (λ j u. u.inversion) l.inversion
+  inversion_inside = one_further n _ _ (λ j u. u.inversion) l.inversion inversion_some
 
   factor_inside : Inward Ups n (λ m. (level m).factor) (λ m. (inner m).factor) factor_first factor_more false
-  factor_inside = one_further n _ _ (λ j u. u.factor) l.factor
+  factor_inside = one_further n _ _ (λ j u. u.factor) l.factor factor_some
 
   parts_inside : (e : Tree) → Inward Ups n (λ m. (level m).parts e) (λ m. (inner m).parts e) part_first parts_more true
-  parts_inside e = one_further n _ _ (λ j u. u.parts e) (l.parts e)
+  parts_inside e = one_further n _ _ (λ j u. u.parts e) (l.parts e) (parts_some e)
 
   pub at_conditional : Step Ups n (λ m. form.conditional m (level m)) (λ m. reader.read_conditional m (inner m)) first expression_more false
   at_conditional = rule.conditional_step Ups n level inner expression_inside disjunction_inside inversion_inside factor_inside parts_inside lone
@@ -174,6 +171,10 @@ expression_lawful n = let d = at_level n in (at_conditional n d.0 d.1).rule.law 
 pub expression_dives : (n : ℕ) → Dives ⊥ n form.expression reader.read_expression
 unfolding form.expression
 expression_dives n = let d = at_level n in (at_conditional n d.0 d.1).dives ups
+
+pub expression_brief : Brief form.expression
+unfolding form.expression
+expression_brief = (at_conditional 0 inside_zero lone_zero).brief
 
 pub expression_grows : Grows form.expression
 unfolding form.expression

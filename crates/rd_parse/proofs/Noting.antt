@@ -40,7 +40,7 @@ module _ {T A : Type 0} (n : ℕ) (s : T → Bool) (P : ℕ → Form T A) (f : �
       let whole : (every s a.used, d.0) ≡ x = ap (λ (b : Bool). (b, d.0)) all ∙ value in
       subst (λ (x : Bool × A). Found n N R x ts rest) whole (record { used = a.used; parts = a.parts; anywhere = λ k. (a.used, refl, refl, a.anywhere k); steady = λ m k le h. run m a.used k d.0 (a.steady m k le h) })
 
-  pub noting_completes : (used : List T) → Completes P used → Completes N used
+  noting_completes : (used : List T) → Completes P used → Completes N used
   noting_completes used c = record {
     depth = c.depth;
     by_ = c.by_;

@@ -16,7 +16,7 @@ use Rattle.rd_parse.specs.Statements as form
 use Rattle.rd_parse.specs.Statements.{Command, plus_value, spoken, kept, begins_assignment, begins_statement, annotation, inner_annotation, annotated, behind_colon, a_block}
 use Rattle.rd_parse.specs.StatementReading as reader
 use Rattle.rd_parse.specs.StatementReading.{assigns, read_annotation, read_inner_annotation, read_annotated, read_behind_colon, read_a_block}
-use Rattle.rd_parse.proofs.Laws.{Grows, Completes, Lawful, got, got_rest, stopped, stopped_rest, or_none}
+use Rattle.rd_parse.proofs.Laws.{Grows, Lawful, got, got_rest, stopped, stopped_rest, or_none}
 use Rattle.rd_parse.proofs.Depth.{below_grows, below_zero, below_suc}
 use Rattle.rd_parse.proofs.More.{way, begins}
 use Rattle.rd_parse.proofs.Rules.{Up, and_false}
@@ -25,11 +25,11 @@ use Rattle.rd_parse.proofs.Sets.{holds_one, set, join_set, and_both, by_way, set
 use Rattle.rd_parse.proofs.Samples.{example, example_is}
 use Rattle.rd_parse.proofs.Steps.{Step, Inward, settled, one_further, from_outside, opens_then, wide, carries, takes, makes, then, chooses, each, tests, picks}
 use Rattle.rd_parse.proofs.Expressions.{first, expression_more, first_is, name_is, name_there, there_some}
-use Rattle.rd_parse.proofs.Dive.{Below, Dives, nothing_below, below_dives, noting_dives, sunk, not_sunk}
+use Rattle.rd_parse.proofs.Dive.{Below, Brief, Dives, nothing_below, below_dives, noting_dives, noting_ends, sunk, not_sunk}
 use Rattle.rd_parse.proofs.DiveTurns.{Firsts}
-use Rattle.rd_parse.proofs.Nested.{expression_dives, lone_expression, expression_lawful, expression_grows}
+use Rattle.rd_parse.proofs.Nested.{expression_dives, expression_brief, lone_expression, expression_lawful, expression_grows}
 use Rattle.rd_parse.proofs.Loops.{Shrinks, shrinks_of}
-use Rattle.rd_parse.proofs.Noting.{noting_lawful, noting_completes}
+use Rattle.rd_parse.proofs.Noting.{noting_lawful}
 
 -- ---- sets of tokens
 
@@ -126,10 +126,9 @@ module _ (U : ℕ → Type 0) (n : ℕ) (X : ℕ → Form Token (Unit {0})) (F :
 none_there : is w.Nothing (example w.Nothing) ≡ Some tt
 none_there = example_is w.Nothing
 
-annotation_some : Completes inner_annotation []
+annotation_some : Brief inner_annotation
 unfolding inner_annotation
 annotation_some = record {
-  depth = 1;
   by_ = example w.Nothing ∷ [];
   value = tt;
   gives = λ k. (tt, k, (tt, k, inr (inl (none_there, refl)), inr (refl, refl)), ([], k, refl, (refl, refl)));
@@ -142,7 +141,7 @@ abbrev Annotations : ℕ → Type 0
 Annotations n = Below n inner_annotation read_inner_annotation (set part_first) (set annotation_more) false
 
 inside_at : (n : ℕ) → Annotations n → Inward On n inner_annotation read_inner_annotation part_first annotation_more false
-inside_at n l = one_further n _ _ (λ j u. u) l
+inside_at n l = one_further n _ _ (λ j u. u) l annotation_some
 
 union_at : (n : ℕ) → Annotations n → Step On n (λ m. form.union m (inner_annotation m)) (λ m. reader.read_union m (read_inner_annotation m)) part_first annotation_more false
 union_at n l = union_step On n inner_annotation read_inner_annotation (inside_at n l)
@@ -169,12 +168,16 @@ pub annotation_dives : (n : ℕ) → Dives ⊥ n annotation read_annotation
 unfolding annotation
 annotation_dives n = (union_at n (annotations_at n)).dives annotations_up
 
+pub annotation_brief : Brief annotation
+unfolding annotation
+annotation_brief = (union_at 0 annotations_zero).brief
+
 pub annotation_grows : Grows annotation
 unfolding annotation
 annotation_grows n = (union_at 0 annotations_zero).rule.up n (annotations_up n)
 
 annotation_base : (U : ℕ → Type 0) (n : ℕ) → Step U n annotation read_annotation part_first annotation_more false
-annotation_base U n = settled n _ _ annotation_grows (annotation_lawful n) (annotation_dives n)
+annotation_base U n = settled n _ _ annotation_grows (annotation_lawful n) (annotation_dives n) annotation_brief
 
 pub annotated_step : (U : ℕ → Type 0) (n : ℕ) → Step U n annotated read_annotated (w.Colon ∷ []) (w.Colon ∷ annotation_more) true
 unfolding annotated read_annotated
@@ -276,14 +279,21 @@ module _ (n : ℕ)
 
 module _ (U : ℕ → Type 0) (n : ℕ) where
   value_step : Step U n expression read_expression first expression_more false
-  value_step = settled n _ _ expression_grows (expression_lawful n) (expression_dives n)
+  value_step = settled n _ _ expression_grows (expression_lawful n) (expression_dives n) expression_brief
 
   below_law : (n : ℕ) → Lawful n (below expression) (read_below read_expression) (set first) (set expression_more) false
   below_law zero = below_zero expression read_expression _ _ false (expression_lawful 0).some
   below_law (suc n) = below_suc n expression read_expression _ _ false (expression_lawful n)
 
+  -- a name alone needs no level
+  name_below : Brief (below expression)
+  unfolding expression
+  name_below =
+      let a = there_some (name_of (example w.Name)) (ap is_there name_there) in
+      record { by_ = example w.Name ∷ []; value = node.Name a.0; gives = λ k. lone_expression 0 (level 0) a.0 (example w.Name) k a.1 }
+
   below_step : Inward U n (below expression) (read_below read_expression) first expression_more false
-  below_step = one_further n _ _ (λ j u. below_grows expression expression_grows j) (record { law = below_law n; dives = below_dives expression read_expression expression_dives n })
+  below_step = one_further n _ _ (λ j u. below_grows expression expression_grows j) (record { law = below_law n; dives = below_dives expression read_expression expression_dives n }) name_below
 
   the_name : Step U n (λ _. one name_of) (λ _. read_one name_of) (w.Name ∷ []) [] false
   the_name = carries U n name_of (w.Name ∷ []) (example w.Name) _ name_there (λ t h. name_is t ∙ h)
@@ -324,7 +334,8 @@ module _ (U : ℕ → Type 0) (n : ℕ) where
       up = λ j u x ts rest h. (h.0, h.1, h.2, expression_grows j x.1 ts rest h.3);
       law = λ x. noting_lawful n (hits text_of) expression read_expression _ _ false (expression_lawful n);
     };
-    dives = λ x. noting_dives ⊥ n (hits text_of) expression read_expression (noting_completes n (hits text_of) expression read_expression _ _ false (expression_lawful n)) (expression_dives n);
+    dives = λ x. noting_dives ⊥ n (hits text_of) expression read_expression (expression_dives n);
+    brief = noting_ends 1 (hits text_of) expression [] expression_brief;
   }
 
   speaking_step : Step U n form.speaking reader.read_speaking first expression_more false
@@ -408,10 +419,9 @@ block_first = w.Newline ∷ simple_first
 pass_there : (k : List Token) → form.simple 0 (Some statement.Pass) (example w.Pass ∷ example w.Newline ∷ k) (example w.Newline ∷ k)
 pass_there k = inr (inr (inl (tt, example w.Newline ∷ k, (example_is w.Pass, refl), (refl, refl))))
 
-behind_some : Completes behind_colon []
+behind_some : Brief behind_colon
 unfolding behind_colon
 behind_some = record {
-  depth = 1;
   by_ = example w.Pass ∷ example w.Newline ∷ [];
   value = statement.Pass ∷ [];
   gives = λ k. inr (Some statement.Pass, k, (Some statement.Pass, example w.Newline ∷ k, pass_there k, (tt, k, (example_is w.Newline, refl), (refl, refl))), (refl, refl));
@@ -424,7 +434,7 @@ abbrev Blocks : ℕ → Type 0
 Blocks n = Below n behind_colon read_behind_colon (set block_first) (set []) false
 
 commands_at : (n : ℕ) → Blocks n → Step OnBlock n (λ m. form.commands m (behind_colon m)) (λ m. reader.read_commands m (read_behind_colon m)) block_first [] false
-commands_at n l = commands_step OnBlock n behind_colon read_behind_colon (one_further n _ _ (λ j u. u) l)
+commands_at n l = commands_step OnBlock n behind_colon read_behind_colon (one_further n _ _ (λ j u. u) l behind_some)
 
 blocks_zero : Blocks 0
 unfolding behind_colon read_behind_colon
@@ -442,15 +452,19 @@ blocks_at (suc n) = from_outside n behind_colon read_behind_colon blocks_up (com
 
 pub block_lawful : (n : ℕ) → Lawful n a_block read_a_block (set (w.Colon ∷ [])) (set []) false
 unfolding a_block
-block_lawful n = (block_step OnBlock n behind_colon read_behind_colon (one_further n _ _ (λ j u. u) (blocks_at n))).rule.law blocks_up
+block_lawful n = (block_step OnBlock n behind_colon read_behind_colon (one_further n _ _ (λ j u. u) (blocks_at n) behind_some)).rule.law blocks_up
 
 pub block_dives : (n : ℕ) → Dives ⊥ n a_block read_a_block
 unfolding a_block
-block_dives n = (block_step OnBlock n behind_colon read_behind_colon (one_further n _ _ (λ j u. u) (blocks_at n))).dives blocks_up
+block_dives n = (block_step OnBlock n behind_colon read_behind_colon (one_further n _ _ (λ j u. u) (blocks_at n) behind_some)).dives blocks_up
+
+pub block_brief : Brief a_block
+unfolding a_block
+block_brief = (block_step OnBlock 0 behind_colon read_behind_colon (one_further 0 _ _ (λ j u. u) blocks_zero behind_some)).brief
 
 pub block_grows : Grows a_block
 unfolding a_block
-block_grows n = (block_step OnBlock 0 behind_colon read_behind_colon (one_further 0 _ _ (λ j u. u) blocks_zero)).rule.up n (blocks_up n)
+block_grows n = (block_step OnBlock 0 behind_colon read_behind_colon (one_further 0 _ _ (λ j u. u) blocks_zero behind_some)).rule.up n (blocks_up n)
 
 -- ---- what is read again and again takes something
 

@@ -1,5 +1,5 @@
 -- The laws of each way to build a form, over sets of tokens that are lists.
-use Rattle.std.proofs.Common.{◌≡◌, ℕ, suc, Bool, true, false, ◌&&◌, ◌||◌, List, [], ◌∷◌, ◌++◌, Option, Some, refl, ap, sym, subst, ◌∙◌, inl, inr}
+use Rattle.std.proofs.Common.{◌≡◌, ℕ, suc, Bool, true, false, ◌&&◌, ◌||◌, List, [], ◌∷◌, ◌++◌, Option, Some, refl, ap, sym, subst, ◌∙◌, append_assoc, inl, inr}
 use Rattle.rd_syntax.specs.declared.token.Token.{Token}
 use Rattle.rd_parse.specs.declared.terminal.Terminal.{Terminal}
 use Rattle.rd_parse.specs.declared.terminal.Terminal.TheVariants as w
@@ -11,7 +11,7 @@ use Rattle.rd_parse.proofs.Depth.{down_suc}
 use Rattle.rd_parse.proofs.Rules.{Rule, Up, base, token, opens, value, binds, choice, repeats, relabel}
 use Rattle.rd_parse.proofs.Tail.{tail_lawful}
 use Rattle.rd_parse.proofs.Pick.{Apart2, pick_lawful}
-use Rattle.rd_parse.proofs.Dive.{Below, Dives, dives_for, down_dives, one_dives, opening_dives, yields_dives, bound_dives, either_dives}
+use Rattle.rd_parse.proofs.Dive.{Below, Brief, Dives, dives_for, down_dives, one_dives, opening_dives, yields_dives, bound_dives, either_dives}
 use Rattle.rd_parse.proofs.DiveTurns.{many_dives, tail_dives, Firsts, pick_dives}
 use Rattle.rd_parse.proofs.Sets.{holds_same, holds_flag, set, within, disjoint, within_holds, sets_apart, either_of, join_set}
 use Rattle.rd_parse.proofs.Samples.{example, example_is}
@@ -24,6 +24,7 @@ bare true n = n ≡ 0
 pub record AnyStep {A : Type 0} (inward : Bool) (U : ℕ → Type 0) (n : ℕ) (P : ℕ → Form Token A) (f : ℕ → Reader Token A) (first more : List Terminal) (null : Bool) : Type 0 where
   pub rule : Rule U n P f (set first) (set more) null
   pub dives : ((j : ℕ) → U j) → Dives (bare inward n) n P f
+  pub brief : Brief P
 
 abbrev pub Step : {A : Type 0} → (ℕ → Type 0) → ℕ → (ℕ → Form Token A) → (ℕ → Reader Token A) → List Terminal → List Terminal → Bool → Type 0
 Step = AnyStep false
@@ -46,12 +47,12 @@ bare_zero true n h = h
 bare_zero false n h = absurd h
 
 -- what was proved by itself
-pub settled : {A : Type 0} {U : ℕ → Type 0} (n : ℕ) (X : ℕ → Form Token A) (f : ℕ → Reader Token A) {fp mp : List Terminal} {np : Bool} → ((j : ℕ) → Up j X) → Lawful n X f (set fp) (set mp) np → Dives ⊥ n X f → Step U n X f fp mp np
-settled n X f u l d = record { rule = base n X f _ _ _ (λ j x. u j) l; dives = λ x. d }
+pub settled : {A : Type 0} {U : ℕ → Type 0} (n : ℕ) (X : ℕ → Form Token A) (f : ℕ → Reader Token A) {fp mp : List Terminal} {np : Bool} → ((j : ℕ) → Up j X) → Lawful n X f (set fp) (set mp) np → Dives ⊥ n X f → Brief X → Step U n X f fp mp np
+settled n X f u l d b = record { rule = base n X f _ _ _ (λ j x. u j) l; dives = λ x. d; brief = b }
 
 -- what stands one level further in
-pub one_further : {A : Type 0} {U : ℕ → Type 0} (n : ℕ) (X : ℕ → Form Token A) (f : ℕ → Reader Token A) {fp mp : List Terminal} {np : Bool} → ((j : ℕ) → U j → Up j X) → Below n X f (set fp) (set mp) np → Inward U n X f fp mp np
-one_further n X f u l = record { rule = base n X f _ _ _ u l.law; dives = λ x. l.dives }
+pub one_further : {A : Type 0} {U : ℕ → Type 0} (n : ℕ) (X : ℕ → Form Token A) (f : ℕ → Reader Token A) {fp mp : List Terminal} {np : Bool} → ((j : ℕ) → U j → Up j X) → Below n X f (set fp) (set mp) np → Brief X → Inward U n X f fp mp np
+one_further n X f u l b = record { rule = base n X f _ _ _ u l.law; dives = λ x. l.dives; brief = b }
 
 -- seen from one level further out
 pub from_outside : {A : Type 0} {U : ℕ → Type 0} (n : ℕ) (P : ℕ → Form Token A) (f : ℕ → Reader Token A) {fp mp : List Terminal} {np : Bool} → ((j : ℕ) → U j) → Step U n (λ m. P (suc m)) (λ m. f (suc m)) fp mp np → Below (suc n) P f (set fp) (set mp) np
@@ -87,7 +88,7 @@ widen {fp = fp} {mp = mp} {fq = fq} {mq = mq} a b p = record {
 pub wide : {A : Type 0} {b : Bool} {U : ℕ → Type 0} {n : ℕ} {P : ℕ → Form Token A} {f : ℕ → Reader Token A} {fp mp fq mq : List Terminal} {np : Bool}
     → within fp fq ≡ true → within mp mq ≡ true → AnyStep b U n P f fp mp np → AnyStep b U n P f fq mq np
 unfolding set
-wide {fp = fp} {mp = mp} {fq = fq} {mq = mq} a c p = record { rule = widen (λ k h. within_holds fp fq (terminal k) a h) (λ k h. within_holds mp mq (terminal k) c h) p.rule; dives = p.dives }
+wide {fp = fp} {mp = mp} {fq = fq} {mq = mq} a c p = record { rule = widen (λ k h. within_holds fp fq (terminal k) a h) (λ k h. within_holds mp mq (terminal k) c h) p.rule; dives = p.dives; brief = p.brief }
 
 nowhere : (k : Token) → (λ (t : Token). false) k ≡ true → set [] k ≡ true
 unfolding set
@@ -96,7 +97,7 @@ nowhere k h = h
 -- a token that carries a value
 pub carries : {A : Type 0} (U : ℕ → Type 0) (n : ℕ) (o : Token → Option A) (ks : List Terminal) (t : Token) (a : A) → o t ≡ Some a → ((k : Token) → hits o k ≡ true → set ks k ≡ true)
     → Step U n (λ _. one o) (λ _. read_one o) ks [] false
-carries U n o ks t a is h = record { rule = widen h nowhere (token U n o t a is); dives = λ x. one_dives ⊥ n o }
+carries U n o ks t a is h = record { rule = widen h nowhere (token U n o t a is); dives = λ x. one_dives ⊥ n o; brief = record { by_ = t ∷ []; value = a; gives = λ k. (is, refl) } }
 
 is_one : (κ : Terminal) (k : Token) → hits (is κ) k ≡ true → set (κ ∷ []) k ≡ true
 unfolding set
@@ -109,14 +110,14 @@ takes U n κ = carries U n (is κ) (κ ∷ []) (example κ) tt (example_is κ) (
 -- a token that opens a level
 pub opened : {A : Type 0} (U : ℕ → Type 0) (n : ℕ) (o : Token → Option A) (ks : List Terminal) (t : Token) (a : A) → o t ≡ Some a → ((k : Token) → hits o k ≡ true → set ks k ≡ true)
     → Step U n (opening o) (read_opening o) ks [] false
-opened U n o ks t a is h = record { rule = widen h nowhere (opens U n o t a is); dives = λ x. opening_dives ⊥ n o }
+opened U n o ks t a is h = record { rule = widen h nowhere (opens U n o t a is); dives = λ x. opening_dives ⊥ n o; brief = record { by_ = t ∷ []; value = a; gives = λ k. (is, refl) } }
 
 pub opens_with : (U : ℕ → Type 0) (n : ℕ) (κ : Terminal) → Step U n (opening (is κ)) (read_opening (is κ)) (κ ∷ []) [] false
 opens_with U n κ = opened U n (is κ) (κ ∷ []) (example κ) tt (example_is κ) (is_one κ)
 
 -- this value, of no token
 pub makes : {A : Type 0} (U : ℕ → Type 0) (n : ℕ) (a : A) → Step U n (λ _. yields a) (λ _. pure a) [] [] true
-makes U n a = record { rule = widen nowhere nowhere (value U n a); dives = λ x. yields_dives ⊥ n a }
+makes U n a = record { rule = widen nowhere nowhere (value U n a); dives = λ x. yields_dives ⊥ n a; brief = record { by_ = []; value = a; gives = λ k. (refl, refl) } }
 
 module _ {A B : Type 0} {a b : Bool} {U : ℕ → Type 0} {n : ℕ} {P : ℕ → Form Token A} {Q : A → ℕ → Form Token B} {f : ℕ → Reader Token A} {g : A → ℕ → Reader Token B} {fp mp fq mq : List Terminal} {np nq : Bool}
     (apart : disjoint fq mp ≡ true) (p : AnyStep a U n P f fp mp np) (q : (x : A) → AnyStep b U n (Q x) (g x) fq mq nq) where
@@ -125,15 +126,25 @@ module _ {A B : Type 0} {a b : Bool} {U : ℕ → Type 0} {n : ℕ} {P : ℕ →
 
   chain_dives : (bad : Type 0) → (bare a n → bad) → ((x : A) (ts rest : List Token) → P n x ts rest → bare b n → bad) → ((j : ℕ) → U j) → Dives bad n (λ m. bound (P m) (λ x. Q x m)) (λ m. f m >>= λ x. g x m)
   chain_dives bad in_first in_second u =
-      bound_dives (bare a n) (bare b n) bad n P Q f g (λ j. p.rule.up j (u j)) (λ x j. (q x).rule.up j (u j)) (p.rule.law u).found (λ x. ((q x).rule.law u).some) (p.dives u) (λ x. (q x).dives u) in_first in_second
+      bound_dives (bare a n) (bare b n) bad n P Q f g (λ j. p.rule.up j (u j)) (λ x j. (q x).rule.up j (u j)) (p.rule.law u).found (λ x. (q x).brief) (p.dives u) (λ x. (q x).dives u) in_first in_second
+
+  chain_brief : Brief (λ m. bound (P m) (λ x. Q x m))
+  chain_brief =
+      let first = p.brief in
+      let second = (q first.value).brief in
+      record {
+        by_ = first.by_ ++ second.by_;
+        value = second.value;
+        gives = λ k. (first.value, second.by_ ++ k, subst (λ (ts : List Token). P 1 first.value ts (second.by_ ++ k)) (sym (append_assoc first.by_ second.by_ k)) (first.gives (second.by_ ++ k)), second.gives k);
+      }
 
   -- one after the other
   pub then : AnyStep (a || b) U n (λ m. bound (P m) (λ x. Q x m)) (λ m. f m >>= λ x. g x m) (either_of np fp fq) (either_of nq mq mp) (np && nq)
-  then = record { rule = chain; dives = chain_dives (bare (a || b) n) (bare_left a b n) (λ x ts rest h. bare_right a b n) }
+  then = record { rule = chain; dives = chain_dives (bare (a || b) n) (bare_left a b n) (λ x ts rest h. bare_right a b n); brief = chain_brief }
 
   -- the same, where the first one opens a level, so that what stands behind it isn't asked for where none may be open
   pub enters : ((x : A) (ts rest : List Token) → P 0 x ts rest → ⊥) → AnyStep a U n (λ m. bound (P m) (λ x. Q x m)) (λ m. f m >>= λ x. g x m) (either_of np fp fq) (either_of nq mq mp) (np && nq)
-  enters shut = record { rule = chain; dives = chain_dives (bare a n) (λ h. h) (λ x ts rest h e. absurd (shut x ts rest (subst (λ m. P m x ts rest) (bare_zero b n e) h))) }
+  enters shut = record { rule = chain; dives = chain_dives (bare a n) (λ h. h) (λ x ts rest h e. absurd (shut x ts rest (subst (λ m. P m x ts rest) (bare_zero b n e) h))); brief = chain_brief }
 
 -- behind this terminal, which opens a level
 pub opens_then : {B : Type 0} {b : Bool} (U : ℕ → Type 0) (n : ℕ) (κ : Terminal) {Q : Unit {0} → ℕ → Form Token B} {g : Unit {0} → ℕ → Reader Token B} {fq mq : List Terminal} {nq : Bool}
@@ -150,6 +161,7 @@ chooses {a = a} {b = b} {U = U} {n = n} {P = P} {Q = Q} {f = f} {g = g} {fp = fp
       rule = subst (λ (s : Token → Bool). Rule U n (λ m. either (P m) (Q m)) (λ m. read_either s (f m) (g m)) (set (fp ++ fq)) (set (either_of nq (mp ++ mq) fp)) nq) same
           (relabel (λ t. join_set true fp fq t) (λ t. more t nq) (choice p.rule q.rule (sets_apart fq fp apart)));
       dives = λ u. either_dives (bare (a || b) n) n s P Q f g (dives_for (bare_left a b n) (p.dives u)) (dives_for (bare_right a b n) (q.dives u));
+      brief = record { by_ = p.brief.by_; value = p.brief.value; gives = λ k. inl (p.brief.gives k) };
     }
   where
     more : (t : Token) (b : Bool) → join b (join true (set mp) (set mq)) (set fp) t ≡ set (either_of b (mp ++ mq) fp) t
@@ -164,6 +176,7 @@ each {b = b} {U = U} {n = n} {P = P} {f = f} {fp = fp} {mp = mp} s match_ apart 
     record {
       rule = subst (λ (s : Token → Bool). Rule U n (λ m. many (P m)) (λ m. read_many s (f m)) (set fp) (set (fp ++ mp)) true) same (relabel (λ t. refl) (λ t. join_set true fp mp t) (repeats p.rule (sets_apart fp mp apart)));
       dives = λ u. subst (λ (s : Token → Bool). Dives (bare b n) n (λ m. many (P m)) (λ m. read_many s (f m))) same (many_dives (bare b n) n P f (set fp) (set mp) (λ j. p.rule.up j (u j)) (p.rule.law u) (p.dives u));
+      brief = record { by_ = []; value = []; gives = λ k. refl };
     }
 
 -- the test for one terminal
@@ -201,6 +214,7 @@ commas_by {b = b} {U = U} {n = n} {P = P} {f = f} {fp = fp} {mp = mp} test step 
     up = λ j h. tail_up (is w.Comma) P step j (λ s. (p s).rule.up j h) s;
   });
   dives = λ x. tail_dives (bare b n) n (is w.Comma) (example w.Comma) tt (example_is w.Comma) P f test (set mp) step (λ s j. (p s).rule.up j (x j)) (λ s. (relabel (match_ s) (λ t. refl) (p s).rule).law x) (λ s. (p s).dives x) s;
+  brief = record { by_ = []; value = []; gives = λ k. inl refl };
 }
 
 -- each behind a comma
@@ -218,4 +232,5 @@ picks {x = x} {y = y} {U = U} {n = n} {P = P} {Q = Q} {f = f} {g = g} {fp = fp} 
     up = λ j u v ts rest h. elim h [ inl x ↦ inl (p.rule.up j u v ts rest x) | inr x ↦ inr (q.rule.up j u v ts rest x) ];
   });
   dives = λ u. pick_dives (bare (x || y) n) n a b P Q f g (dives_for (bare_left x y n) (p.dives u)) (dives_for (bare_right x y n) (q.dives u)) (firsts u);
+  brief = record { by_ = p.brief.by_; value = p.brief.value; gives = λ k. inl (p.brief.gives k) };
 }

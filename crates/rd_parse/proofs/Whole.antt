@@ -1,5 +1,5 @@
 -- Whole texts.
-use Rattle.std.proofs.Common.{◌≡◌, ℕ, ◌+◌, ◌≤◌, Bool, true, false, List, [], ◌∷◌, ◌++◌, Ok, Err, refl, sym, ap, subst, ◌∙◌, append_assoc, arith, ◌≢◌, length, inl, inr}
+use Rattle.std.proofs.Common.{◌≡◌, ℕ, suc, ◌+◌, ◌≤◌, Bool, true, false, List, [], ◌∷◌, ◌++◌, Ok, Err, refl, sym, ap, subst, ◌∙◌, append_assoc, arith, ◌≢◌, length, inl, inr}
 use Rattle.std.specs.Prelude.{◌==◌}
 use Rattle.std.proofs.lemmas.Bool.{eqb-true}
 use Rattle.std.proofs.lemmas.List.{append-nil}
@@ -81,8 +81,11 @@ text_deep {T} {A} P f first more null grows laws n dives ts after e = elim (dive
       behind = d.after;
       parts = d.parts;
       left = d.left;
-      viable = (d.completes.by_, d.completes.depth, d.completes.value, subst (λ (c : List T). P d.completes.depth d.completes.value ((d.used ++ d.token ∷ []) ++ c) []) (append-nil d.completes.by_) (d.completes.gives []));
-      closed = λ more a h. let s = d.sinks more in text_not_read P f first _ null grows laws n (d.used ++ d.token ∷ more) (Deep s.0) a s.1 h;
+      viable = (d.completes.by_, d.completes.value, subst (λ (c : List T). P (suc n) d.completes.value ((d.used ++ d.token ∷ []) ++ c) []) (append-nil d.completes.by_) (d.completes.gives []));
+      closed = λ v.
+          let s = d.sinks v.0 in
+          let h : P n v.1 (d.used ++ d.token ∷ v.0) [] = subst (λ (ts : List T). P n v.1 ts []) (append_assoc d.used (d.token ∷ []) v.0) v.2 in
+          text_not_read P f first _ null grows laws n (d.used ++ d.token ∷ v.0) (Deep s.0) v.1 s.1 h;
     }
 
 pub none_left : {T : Type 0} (n : ℕ) (ts : List T) → n ≡ length ts → (n == 0) ≡ true → ts ≡ []
