@@ -15,13 +15,15 @@ use Rattle.rd_parse.specs.Expressions as form
 use Rattle.rd_parse.specs.Expressions.{Tree, Level, Argument, Arguments, Positional, Keyword, behind, sorted, joined, chained, anded, ored, plus_of, plus_by, times_of, times_by, comparison_of, comparison_by, constant_of, constant_by, begins_expression, begins_argument, begins_part, begins_comparison}
 use Rattle.rd_parse.specs.Reading as reader
 use Rattle.rd_parse.specs.Reading.{Readers, no_call, assigned}
-use Rattle.rd_parse.proofs.Laws.{Lawful, got, got_rest, stopped_rest, or_none}
+use Rattle.rd_parse.proofs.Laws.{Lawful, got, got_rest, stopped, stopped_rest, or_none}
+use Rattle.rd_parse.proofs.Dive.{Sinks, sunk, not_sunk}
+use Rattle.rd_parse.proofs.DiveTurns.{Firsts}
 use Rattle.rd_parse.proofs.More.{way}
 use Rattle.rd_parse.proofs.Rules.{and_false}
 use Rattle.rd_parse.proofs.Pick.{Apart2, eager_by}
 use Rattle.rd_parse.proofs.Sets.{holds_one, set, within, join_set, and_both, by_way}
 use Rattle.rd_parse.proofs.Samples.{example, example_is}
-use Rattle.rd_parse.proofs.Steps.{Step, wide, carries, takes, opened, opens_with, makes, then, chooses, each, tests, commas, commas_by, picks}
+use Rattle.rd_parse.proofs.Steps.{Step, Inward, opens_then, enters, wide, carries, takes, opened, makes, then, chooses, each, tests, commas, commas_by, picks}
 
 -- ---- the tokens that may begin a form, and those with which one may go on
 
@@ -238,7 +240,7 @@ path_within t h = path_by (terminal t) t.text h
 abbrev pub Lone : ℕ → (ℕ → Level) → (ℕ → Readers) → Type 0
 Lone n X F =
     ((t u : Token) (after : List Token) → hits name_of t ≡ true → hits (is w.Assign) u ≡ true → (x : Tree) × ((F n).expression (t ∷ u ∷ after) ≡ Ok (x, u ∷ after)))
-    ⊎ (((x : Tree) (ts rest : List Token) → (X n).expression x ts rest → ⊥) × ((ts : List Token) → (F n).expression ts ≡ Err (Deep ts)))
+    ⊎ (((x : Tree) (ts rest : List Token) → (X n).expression x ts rest → ⊥) × ((ts : List Token) → (F n).expression ts ≡ Err (Deep ts)) × (n ≡ 0))
 
 pub there_some : {A : Type 0} (o : Option A) → is_there o ≡ true → (a : A) × (o ≡ Some a)
 there_some None h = absurd cc
@@ -308,6 +310,24 @@ module _ (n : ℕ) (X : ℕ → Level) (F : ℕ → Readers) (lone : Lone n X F)
   arguments_apart : Apart2 n (hits name_of) assigned (set (w.Assign ∷ expression_more)) (λ m. form.keyword m (X m)) (λ m. form.positional m (X m)) (λ m. reader.read_keyword m (F m)) (λ m. reader.read_positional m (F m))
   arguments_apart = record { pairs = λ x ts rest h m. keyword_pairs x ts rest h; alone = positional_alone; eager_pair = keyword_eager; eager_alone = positional_eager }
 
+  arguments_firsts : Firsts (n ≡ 0) n (hits name_of) assigned (λ m. reader.read_keyword m (F m)) (λ m. reader.read_positional m (F m))
+  unfolding reader.read_keyword reader.read_positional
+  arguments_firsts = record {
+    pairs = λ t name sinks k p.
+        let a = there_some (name_of t) name in
+        let s = sinks [] in
+        let other : reader.read_keyword n (F n) (t ∷ []) ≡ Err (Refused []) = rw a.1 refl in
+        absurd (let bad : stopped {T = Token} {A = Argument} [] ≡ sunk s.0 = sym other ∙ s.1 in cc);
+    alone = λ t name sinks. elim lone [
+      | inl l ↦
+          let a = l t (example w.Assign) [] name (some_there (is w.Assign (example w.Assign)) tt (example_is w.Assign)) in
+          let s = sinks (example w.Assign ∷ []) in
+          let other : reader.read_positional n (F n) (t ∷ example w.Assign ∷ []) ≡ Ok (Positional a.0, example w.Assign ∷ []) = rw a.1 refl in
+          absurd (not_sunk (Positional a.0) (example w.Assign ∷ []) s.0 (sym other ∙ s.1))
+      | inr l ↦ l.2
+    ];
+  }
+
 opening_empty : {A : Type 0} (o : Token → Option A) (m : ℕ) (a : A) (mid : List Token) → opening o m a [] mid → ⊥
 opening_empty o zero a mid h = h
 opening_empty o (suc m) a mid h = h
@@ -370,6 +390,33 @@ module _ (n : ℕ) (X : ℕ → Level) (F : ℕ → Readers) (e : Tree)
       eager_by n (λ m. form.method m (X m) e) (λ m. reader.read_method m (F m) e) _ _ false method_law (t ∷ ts) rest bad (t ∷ []) refl
       (λ no. let stop : [] ≡ t ∷ [] = stopped_rest Tree [] (t ∷ []) (sym (method_stops n t a.0 a.1) ∙ no) in cc)
 
+  paren_there : (k : List Token) → no_call (head k) ≡ false → sees (hits (is w.LeftParen)) k ≡ true
+  paren_there k h = by_test (sees (hits (is w.LeftParen)) k) h
+    where
+      by_test : (b : Bool) → not b ≡ false → b ≡ true
+      by_test true h = refl
+      by_test false h = absurd cc
+
+  path_or_method : (m : ℕ) (t : Token) (k : List Token) → hits form.path_word t ≡ true → Sinks (reader.read_path m (F m) e) (t ∷ []) → pair (hits form.path_word) no_call (t ∷ k) ≡ false → Sinks (reader.read_method m (F m) e) (t ∷ k)
+  unfolding reader.read_path reader.read_method
+  path_or_method zero t k h s p =
+      let a = word_of_path t h in
+      let paren : no_call (head k) ≡ false = rw h at p in
+      (k, rw (a.1, paren_there k paren) refl)
+  path_or_method (suc m) t k h s p =
+      let a = there_some (form.path_word t) h in
+      let other : reader.read_path (suc m) (F (suc m)) e (t ∷ []) ≡ Ok (node.Path e, []) = rw a.1 refl in
+      absurd (not_sunk (node.Path e) [] s.0 (sym other ∙ s.1))
+
+  dotted_firsts : Firsts ⊥ n (hits form.path_word) no_call (λ m. reader.read_path m (F m) e) (λ m. reader.read_method m (F m) e)
+  dotted_firsts = record {
+    pairs = λ t h sinks k p. path_or_method n t k h (sinks []) p;
+    alone = λ t h sinks.
+        let a = word_of_path t h in
+        let s = sinks [] in
+        (let bad : stopped {T = Token} {A = Tree} [] ≡ sunk s.0 = sym (method_stops n t a.0 a.1) ∙ s.1 in cc);
+  }
+
   dotted_apart : Apart2 n (hits form.path_word) no_call (set (w.LeftParen ∷ [])) (λ m. form.path m (X m) e) (λ m. form.method m (X m) e) (λ m. reader.read_path m (F m) e) (λ m. reader.read_method m (F m) e)
   dotted_apart = record { pairs = path_pairs; alone = λ x ts rest h m. method_alone x ts rest h; eager_pair = path_eager; eager_alone = method_eager }
 
@@ -377,48 +424,56 @@ module _ (n : ℕ) (X : ℕ → Level) (F : ℕ → Readers) (e : Tree)
 
 -- X are the forms of what stands one level further in, F their readers.
 module _ (U : ℕ → Type 0) (n : ℕ) (X : ℕ → Level) (F : ℕ → Readers)
-    (expression_step : Step U n (λ m. (X m).expression) (λ m. (F m).expression) first expression_more false)
-    (disjunction_inside : Step U n (λ m. (X m).disjunction) (λ m. (F m).disjunction) first disjunction_more false)
-    (inversion_inside : Step U n (λ m. (X m).inversion) (λ m. (F m).inversion) first comparison_more false)
-    (factor_inside : Step U n (λ m. (X m).factor) (λ m. (F m).factor) factor_first factor_more false)
-    (parts_inside : (e : Tree) → Step U n (λ m. (X m).parts e) (λ m. (F m).parts e) part_first parts_more true)
+    (expression_step : Inward U n (λ m. (X m).expression) (λ m. (F m).expression) first expression_more false)
+    (disjunction_inside : Inward U n (λ m. (X m).disjunction) (λ m. (F m).disjunction) first disjunction_more false)
+    (inversion_inside : Inward U n (λ m. (X m).inversion) (λ m. (F m).inversion) first comparison_more false)
+    (factor_inside : Inward U n (λ m. (X m).factor) (λ m. (F m).factor) factor_first factor_more false)
+    (parts_inside : (e : Tree) → Inward U n (λ m. (X m).parts e) (λ m. (F m).parts e) part_first parts_more true)
     (lone : Lone n X F) where
   abbrev Of : {A : Type 0} → (ℕ → Level → Form Token A) → (ℕ → Readers → Reader Token A) → List Terminal → List Terminal → Bool → Type 0
   Of P f = Step U n (λ m. P m (X m)) (λ m. f m (F m))
 
-  pub expressions_step : Of form.expressions reader.read_expressions first inside_more true
+  abbrev Within : {A : Type 0} → (ℕ → Level → Form Token A) → (ℕ → Readers → Reader Token A) → List Terminal → List Terminal → Bool → Type 0
+  Within P f = Inward U n (λ m. P m (X m)) (λ m. f m (F m))
+
+  part_shut : (e x : Tree) (ts rest : List Token) → form.part 0 (X 0) e x ts rest → ⊥
+  part_shut e x ts rest (inl h) = h.2
+  part_shut e x ts rest (inr h) = elim h.3 [ inl p ↦ p.2 | inr p ↦ p.3.2 ]
+
+  pub expressions_step : Within form.expressions reader.read_expressions first inside_more true
   unfolding reader.read_expressions
   expressions_step =
       wide refl refl (chooses (among begins_expression) first_is refl (then refl expression_step (λ e. then refl (commas (among begins_expression) first_is refl refl expression_step) (λ more. makes U n (e ∷ more)))) (makes U n []))
 
-  pub keyword_step : Of form.keyword reader.read_keyword (w.Name ∷ []) expression_more false
+  pub keyword_step : Within form.keyword reader.read_keyword (w.Name ∷ []) expression_more false
   unfolding reader.read_keyword
   keyword_step = then refl (carries U n name_of (w.Name ∷ []) (example w.Name) _ name_there (λ t h. name_is t ∙ h)) (λ name. then refl (takes U n w.Assign) (λ u. then refl expression_step (λ e. makes U n (Keyword name e))))
 
-  pub positional_step : Of form.positional reader.read_positional first expression_more false
+  pub positional_step : Within form.positional reader.read_positional first expression_more false
   unfolding reader.read_positional
   positional_step = then refl expression_step (λ e. makes U n (Positional e))
 
-  pub argument_step : (s : Bool) → Of (λ m l. form.argument m l s) (λ m l. reader.read_argument m l s) (argument_first s) (w.Assign ∷ expression_more) false
+  pub argument_step : (s : Bool) → Within (λ m l. form.argument m l s) (λ m l. reader.read_argument m l s) (argument_first s) (w.Assign ∷ expression_more) false
   argument_step false =
-      wide refl refl (picks (hits name_of) assigned (w.Assign ∷ expression_more) (λ x. arguments_apart n X F lone (expression_step.rule.law x) (keyword_step.rule.law x) (positional_step.rule.law x)) keyword_step positional_step)
+      wide refl refl (picks (hits name_of) assigned (w.Assign ∷ expression_more) (λ x. arguments_apart n X F lone (expression_step.rule.law x) (keyword_step.rule.law x) (positional_step.rule.law x)) keyword_step positional_step
+      (λ x. arguments_firsts n X F lone (expression_step.rule.law x) (keyword_step.rule.law x) (positional_step.rule.law x)))
   argument_step true = wide refl refl keyword_step
 
   argument_within : (s : Bool) → within (argument_first s) first ≡ true
   argument_within true = refl
   argument_within false = refl
 
-  pub more_arguments_step : (s : Bool) → Of (λ m l. form.more_arguments m l s) (λ m l. reader.read_more_arguments m l s) (w.Comma ∷ []) (w.Assign ∷ inside_more) true
+  pub more_arguments_step : (s : Bool) → Within (λ m l. form.more_arguments m l s) (λ m l. reader.read_more_arguments m l s) (w.Comma ∷ []) (w.Assign ∷ inside_more) true
   more_arguments_step s = wide refl refl (commas_by (λ s. among (begins_argument s)) behind first argument_is argument_within refl argument_step s)
 
-  pub arguments_step : Of form.arguments reader.read_arguments first (w.Assign ∷ inside_more) true
+  pub arguments_step : Within form.arguments reader.read_arguments first (w.Assign ∷ inside_more) true
   unfolding reader.read_arguments
   arguments_step =
       wide refl refl (chooses (among begins_expression) first_is refl (then refl (argument_step false) (λ a. then refl (more_arguments_step (behind false a)) (λ more. makes U n (sorted (a ∷ more))))) (makes U n ([], [])))
 
   pub call_step : (name : Name) → Of (λ m l. form.call m l name) (λ m l. reader.read_call m l name) (w.LeftParen ∷ []) [] false
   unfolding reader.read_call
-  call_step name = then refl (opens_with U n w.LeftParen) (λ u. then refl arguments_step (λ all. then refl (takes U n w.RightParen) (λ v. makes U n (node.Call name all.0 all.1))))
+  call_step name = opens_then U n w.LeftParen refl (λ u. then refl arguments_step (λ all. then refl (takes U n w.RightParen) (λ v. makes U n (node.Call name all.0 all.1))))
 
   pub named_step : Of form.named reader.read_named (w.Name ∷ []) (w.LeftParen ∷ []) false
   unfolding reader.read_named
@@ -441,42 +496,42 @@ module _ (U : ℕ → Type 0) (n : ℕ) (X : ℕ → Level) (F : ℕ → Readers
 
   pub group_step : Of form.group reader.read_group (w.LeftParen ∷ []) [] false
   unfolding reader.read_group
-  group_step = then refl (opens_with U n w.LeftParen) (λ u. then refl expression_step (λ e. then refl (takes U n w.RightParen) (λ v. makes U n e)))
+  group_step = opens_then U n w.LeftParen refl (λ u. then refl expression_step (λ e. then refl (takes U n w.RightParen) (λ v. makes U n e)))
 
-  pub condition_step : Of form.condition reader.read_condition (w.If ∷ []) (w.If ∷ disjunction_more) true
+  pub condition_step : Within form.condition reader.read_condition (w.If ∷ []) (w.If ∷ disjunction_more) true
   unfolding reader.read_condition
   condition_step = wide refl refl (chooses (hits (is w.If)) (tests w.If) refl (then refl (takes U n w.If) (λ u. then refl disjunction_inside (λ e. makes U n (e ∷ [])))) (makes U n []))
 
-  pub comprehension_step : (e : Tree) → Of (λ m l. form.comprehension m l e) (λ m l. reader.read_comprehension m l e) (w.For ∷ []) expression_more false
+  pub comprehension_step : (e : Tree) → Within (λ m l. form.comprehension m l e) (λ m l. reader.read_comprehension m l e) (w.For ∷ []) expression_more false
   unfolding reader.read_comprehension
   comprehension_step e =
       wide refl refl (then refl (takes U n w.For) (λ u. then refl (carries U n name_of (w.Name ∷ []) (example w.Name) _ name_there (λ t h. name_is t ∙ h))
       (λ name. then refl (takes U n w.In) (λ v. then refl disjunction_inside (λ iterable. then refl condition_step (λ c. makes U n (node.Comp e name iterable c)))))))
 
-  pub list_behind_step : (e : Tree) → Of (λ m l. form.list_behind m l e) (λ m l. reader.read_list_behind m l e) (w.Comma ∷ []) inside_more true
+  pub list_behind_step : (e : Tree) → Within (λ m l. form.list_behind m l e) (λ m l. reader.read_list_behind m l e) (w.Comma ∷ []) inside_more true
   unfolding reader.read_list_behind
   list_behind_step e = wide refl refl (then refl (commas (among begins_expression) first_is refl refl expression_step) (λ more. makes U n (node.List (e ∷ more))))
 
-  pub items_step : Of form.items reader.read_items first (w.For ∷ inside_more) true
+  pub items_step : Within form.items reader.read_items first (w.For ∷ inside_more) true
   unfolding reader.read_items
   items_step =
       wide refl refl (chooses (among begins_expression) first_is refl (then refl expression_step (λ e. chooses (hits (is w.For)) (tests w.For) refl (comprehension_step e) (list_behind_step e))) (makes U n (node.List [])))
 
   pub square_step : Of form.square reader.read_square (w.LeftSquare ∷ []) [] false
   unfolding reader.read_square
-  square_step = then refl (opens_with U n w.LeftSquare) (λ u. then refl items_step (λ e. then refl (takes U n w.RightSquare) (λ v. makes U n e)))
+  square_step = opens_then U n w.LeftSquare refl (λ u. then refl items_step (λ e. then refl (takes U n w.RightSquare) (λ v. makes U n e)))
 
-  pub pair_step : Of form.pair reader.read_pair first expression_more false
+  pub pair_step : Within form.pair reader.read_pair first expression_more false
   unfolding reader.read_pair
   pair_step = then refl expression_step (λ key. then refl (takes U n w.Colon) (λ u. then refl expression_step (λ e. makes U n (key, e))))
 
-  pub pairs_step : Of form.pairs reader.read_pairs first inside_more true
+  pub pairs_step : Within form.pairs reader.read_pairs first inside_more true
   unfolding reader.read_pairs
   pairs_step = wide refl refl (chooses (among begins_expression) first_is refl (then refl pair_step (λ p. then refl (commas (among begins_expression) first_is refl refl pair_step) (λ more. makes U n (p ∷ more)))) (makes U n []))
 
   pub curly_step : Of form.curly reader.read_curly (w.LeftCurly ∷ []) [] false
   unfolding reader.read_curly
-  curly_step = then refl (opens_with U n w.LeftCurly) (λ u. then refl pairs_step (λ all. then refl (takes U n w.RightCurly) (λ v. makes U n (node.Dict all))))
+  curly_step = opens_then U n w.LeftCurly refl (λ u. then refl pairs_step (λ all. then refl (takes U n w.RightCurly) (λ v. makes U n (node.Dict all))))
 
   pub atom_step : Of form.atom reader.read_atom atom_first atom_more false
   unfolding reader.read_atom
@@ -486,12 +541,12 @@ module _ (U : ℕ → Type 0) (n : ℕ) (X : ℕ → Level) (F : ℕ → Readers
 
   pub index_step : (e : Tree) → Of (λ m l. form.index m l e) (λ m l. reader.read_index m l e) (w.LeftSquare ∷ []) [] false
   unfolding reader.read_index
-  index_step e = then refl (opens_with U n w.LeftSquare) (λ u. then refl expression_step (λ i. then refl (takes U n w.RightSquare) (λ v. makes U n (node.Index e i))))
+  index_step e = opens_then U n w.LeftSquare refl (λ u. then refl expression_step (λ i. then refl (takes U n w.RightSquare) (λ v. makes U n (node.Index e i))))
 
   pub method_step : (e : Tree) → Of (λ m l. form.method m l e) (λ m l. reader.read_method m l e) (w.Name ∷ []) [] false
   unfolding reader.read_method
   method_step e =
-      then refl (carries U n word_of (w.Name ∷ []) (example w.Name) _ word_there word_within) (λ name. then refl (opens_with U n w.LeftParen) (λ u. then refl expressions_step (λ all. then refl (takes U n w.RightParen) (λ v. makes U n (node.Method e name all)))))
+      then refl (carries U n word_of (w.Name ∷ []) (example w.Name) _ word_there word_within) (λ name. opens_then U n w.LeftParen refl (λ u. then refl expressions_step (λ all. then refl (takes U n w.RightParen) (λ v. makes U n (node.Method e name all)))))
 
   pub path_step : (e : Tree) → Of (λ m l. form.path m l e) (λ m l. reader.read_path m l e) (w.Name ∷ []) [] false
   unfolding reader.read_path
@@ -500,7 +555,7 @@ module _ (U : ℕ → Type 0) (n : ℕ) (X : ℕ → Level) (F : ℕ → Readers
   pub dotted_step : (e : Tree) → Of (λ m l. form.dotted m l e) (λ m l. reader.read_dotted m l e) (w.Dot ∷ []) (w.LeftParen ∷ []) false
   unfolding reader.read_dotted
   dotted_step e =
-      wide refl refl (then refl (takes U n w.Dot) (λ u. picks (hits form.path_word) no_call (w.LeftParen ∷ []) (λ x. dotted_apart n X F e ((method_step e).rule.law x)) (path_step e) (method_step e)))
+      wide refl refl (then refl (takes U n w.Dot) (λ u. picks (hits form.path_word) no_call (w.LeftParen ∷ []) (λ x. dotted_apart n X F e ((method_step e).rule.law x)) (path_step e) (method_step e) (λ x. dotted_firsts n X F e ((method_step e).rule.law x))))
 
   pub part_step : (e : Tree) → Of (λ m l. form.part m l e) (λ m l. reader.read_part m l e) part_first (w.LeftParen ∷ []) false
   unfolding reader.read_part
@@ -508,7 +563,7 @@ module _ (U : ℕ → Type 0) (n : ℕ) (X : ℕ → Level) (F : ℕ → Readers
 
   pub parts_step : (e : Tree) → Of (λ m l. form.parts m l e) (λ m l. reader.read_parts m l e) part_first parts_more true
   unfolding reader.read_parts
-  parts_step e = wide refl refl (chooses (among begins_part) part_is refl (then refl (part_step e) (λ p. parts_inside p)) (makes U n e))
+  parts_step e = wide refl refl (chooses (among begins_part) part_is refl (enters refl (part_step e) (λ p. parts_inside p) (part_shut e)) (makes U n e))
 
   pub postfix_step : Of form.postfix reader.read_postfix atom_first factor_more false
   unfolding reader.read_postfix
@@ -516,7 +571,7 @@ module _ (U : ℕ → Type 0) (n : ℕ) (X : ℕ → Level) (F : ℕ → Readers
 
   pub negative_step : Of form.negative reader.read_negative (w.Minus ∷ []) factor_more false
   unfolding reader.read_negative
-  negative_step = then refl (opens_with U n w.Minus) (λ u. then refl factor_inside (λ e. makes U n (node.Neg e)))
+  negative_step = opens_then U n w.Minus refl (λ u. then refl factor_inside (λ e. makes U n (node.Neg e)))
 
   pub factor_step : Of form.factor reader.read_factor factor_first factor_more false
   unfolding reader.read_factor
@@ -553,7 +608,7 @@ module _ (U : ℕ → Type 0) (n : ℕ) (X : ℕ → Level) (F : ℕ → Readers
 
   pub negation_step : Of form.negation reader.read_negation (w.Not ∷ []) comparison_more false
   unfolding reader.read_negation
-  negation_step = then refl (opens_with U n w.Not) (λ u. then refl inversion_inside (λ e. makes U n (node.Not e)))
+  negation_step = opens_then U n w.Not refl (λ u. then refl inversion_inside (λ e. makes U n (node.Not e)))
 
   pub inversion_step : Of form.inversion reader.read_inversion first comparison_more false
   unfolding reader.read_inversion
@@ -579,4 +634,4 @@ module _ (U : ℕ → Type 0) (n : ℕ) (X : ℕ → Level) (F : ℕ → Readers
   unfolding reader.read_conditional
   conditional_step =
       wide refl refl (then refl disjunction_step (λ e. chooses (hits (is w.If)) (tests w.If) refl (then refl (takes U n w.If) (λ u. then refl disjunction_step
-      (λ test. then refl (opens_with U n w.Else) (λ v. then refl expression_step (λ other. makes U n (node.Cond test e other)))))) (makes U n e)))
+      (λ test. opens_then U n w.Else refl (λ v. then refl expression_step (λ other. makes U n (node.Cond test e other)))))) (makes U n e)))

@@ -9,6 +9,8 @@ pub mod Such
 pub mod Noting
 pub mod Statements
 pub mod Laws
+pub mod Dive
+pub mod DiveTurns
 pub mod More
 pub mod Many
 pub mod Tail

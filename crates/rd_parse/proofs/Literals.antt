@@ -21,15 +21,16 @@ use Rattle.rd_parse.specs.Literals.{Literal, Pair, is_number, is_text, any_of, n
 use Rattle.rd_parse.specs.LiteralReading as reader
 use Rattle.rd_parse.specs.LiteralReading.{any_new, has_number, has_negative, read_inner_literal, read_deep_literal}
 use Rattle.rd_parse.proofs.Laws.{Grows, Completes, Lawful, or_none}
-use Rattle.rd_parse.proofs.Depth.{opening_grows, below_grows, below_zero, below_suc, down_zero, down_suc, recast}
+use Rattle.rd_parse.proofs.Depth.{opening_grows, below_grows, below_zero, below_suc, recast}
 use Rattle.rd_parse.proofs.More.{way}
-use Rattle.rd_parse.proofs.Rules.{Up, base}
+use Rattle.rd_parse.proofs.Rules.{Up}
 use Rattle.rd_parse.proofs.Sets.{holds_one, set}
 use Rattle.rd_parse.proofs.Samples.{sample, example}
-use Rattle.rd_parse.proofs.Steps.{Step, wide, carries, takes, opens_with, makes, then, chooses, each, tests, commas, commas_by}
+use Rattle.rd_parse.proofs.Steps.{Step, Inward, settled, one_further, from_outside, opens_then, wide, carries, takes, makes, then, chooses, each, tests, commas, commas_by}
 use Rattle.rd_parse.proofs.Expressions.{text_is, number_within}
 use Rattle.rd_parse.proofs.Numbers.{spelling, number_small}
 use Rattle.rd_parse.proofs.Such.{such_lawful}
+use Rattle.rd_parse.proofs.Dive.{Below, Brief, brief_some, Dives, nothing_below, below_dives, such_dives, recast_dives}
 
 -- ---- sets of tokens
 
@@ -79,7 +80,7 @@ constant_within : (t : Token) → hits constant_of t ≡ true → set constant_f
 unfolding set
 constant_within t h = constant_by (terminal t) h
 
-constant_there : constant_of (example w.Nothing) ≡ Some value.Nothing
+pub constant_there : constant_of (example w.Nothing) ≡ Some value.Nothing
 unfolding terminal
 constant_there = refl
 
@@ -114,7 +115,7 @@ module _ (U : ℕ → Type 0) (n : ℕ) where
 
   negative_step : Step U n form.negative reader.read_negative (w.Minus ∷ []) [] false
   unfolding reader.read_negative
-  negative_step = then refl (opens_with U n w.Minus) (λ u. then refl number_token (λ z. makes U n (value.Int (neg_ℤ z))))
+  negative_step = opens_then U n w.Minus refl (λ u. then refl number_token (λ z. makes U n (value.Int (neg_ℤ z))))
 
   pub literal_step : Step U n form.literal reader.read_literal plain_first (w.Text ∷ []) false
   unfolding reader.read_literal
@@ -280,7 +281,7 @@ module _ (U : ℕ → Type 0) (n : ℕ) (keys : List Literal) where
   unfolding reader.read_negative_key
   negative_key_step h =
       let s = negative_spelled keys h in
-      then refl (opens_with U n w.Minus)
+      opens_then U n w.Minus refl
       (λ u. then refl (carries U n (negative_key_of keys) (w.Int ∷ []) s.0 s.1 s.2 (λ t h. number_within t (only_hits (λ z. new_number keys (neg_ℤ z)) (number_of t) h))) (λ z. makes U n (value.Int (neg_ℤ z))))
 
   new_step : Step U n (λ _. such (new_text keys) form.texts) (λ _. read_such (new_text keys) reader.read_texts) (w.Text ∷ []) (w.Text ∷ []) false
@@ -291,6 +292,8 @@ module _ (U : ℕ → Type 0) (n : ℕ) (keys : List Literal) where
           let l = (texts_step U n).rule.law x in
           such_lawful n (new_text keys) (λ _. form.texts) (λ _. reader.read_texts) _ _ false l (texts_longer keys) (texts_complete keys [] l.some) (texts_complete keys);
     };
+    dives = λ x. such_dives ⊥ n (new_text keys) (λ _. form.texts) (λ _. reader.read_texts) (λ used c. let d = texts_complete keys used (record { depth = 1; by_ = c.by_; value = c.value; gives = c.gives }) in record { by_ = d.by_; value = d.value; gives = d.gives }) ((texts_step U n).dives x);
+    brief = let d = texts_complete keys [] (brief_some (λ _. form.texts) (texts_step U n).brief) in record { by_ = d.by_; value = d.value; gives = d.gives };
   }
 
   text_key_step : Step U n (λ _. form.text_key keys) (λ _. reader.read_text_key keys) (w.Text ∷ []) (w.Text ∷ []) false
@@ -312,6 +315,8 @@ module _ (U : ℕ → Type 0) (n : ℕ) (keys : List Literal) where
       → ((m : ℕ) (a : Literal) (ts rest : List Token) → form.key keys m a ts rest → P m a ts rest) → Step U n P (reader.read_key_where keys b c) key_first (w.Text ∷ []) false → Key b c
   recast_key b c P there back s = record {
     rule = record { up = λ j u. key_up j; law = λ x. recast n P (form.key keys) _ _ _ _ false (record { there = there; back = back; reads = λ m ts. refl }) (s.rule.law x) };
+    dives = λ x. recast_dives ⊥ n P (form.key keys) _ _ (record { there = there; back = back; reads = λ m ts. refl }) (s.dives x);
+    brief = record { by_ = s.brief.by_; value = s.brief.value; gives = λ k. there 1 s.brief.value _ k (s.brief.gives k) };
   }
 
   no_number : has_number keys ≡ false → (a : Literal) (ts rest : List Token) → form.number_key keys a ts rest → ⊥
@@ -348,46 +353,51 @@ module _ (U : ℕ → Type 0) (n : ℕ) (keys : List Literal) where
 
 -- ---- deep literals
 
-module _ (U : ℕ → Type 0) (n : ℕ) (X : ℕ → Form Token Literal) (F : ℕ → Reader Token Literal) (inside : Step U n X F literal_first (w.Text ∷ []) false) where
+module _ (U : ℕ → Type 0) (n : ℕ) (X : ℕ → Form Token Literal) (F : ℕ → Reader Token Literal) (inside : Inward U n X F literal_first (w.Text ∷ []) false) where
   abbrev Of : {A : Type 0} → (ℕ → Form Token Literal → Form Token A) → (ℕ → Reader Token Literal → Reader Token A) → List Terminal → List Terminal → Bool → Type 0
   Of P f = Step U n (λ m. P m (X m)) (λ m. f m (F m))
 
-  items_step : Of form.items reader.read_items literal_first (w.Comma ∷ w.Text ∷ literal_first) true
+  abbrev Within : {A : Type 0} → (ℕ → Form Token Literal → Form Token A) → (ℕ → Reader Token Literal → Reader Token A) → List Terminal → List Terminal → Bool → Type 0
+  Within P f = Inward U n (λ m. P m (X m)) (λ m. f m (F m))
+
+  items_step : Within form.items reader.read_items literal_first (w.Comma ∷ w.Text ∷ literal_first) true
   unfolding reader.read_items
   items_step =
       wide refl refl (chooses (among begins_literal) literal_is refl (then refl inside (λ e. then refl (commas (among begins_literal) literal_is refl refl inside) (λ more. makes U n (e ∷ more)))) (makes U n []))
 
   square_step : Of form.square reader.read_square (w.LeftSquare ∷ []) [] false
   unfolding reader.read_square
-  square_step = then refl (opens_with U n w.LeftSquare) (λ u. then refl items_step (λ all. then refl (takes U n w.RightSquare) (λ v. makes U n (value.List all))))
+  square_step = opens_then U n w.LeftSquare refl (λ u. then refl items_step (λ all. then refl (takes U n w.RightSquare) (λ v. makes U n (value.List all))))
 
   below_key_law : (keys : List Literal) (n : ℕ) → ((n : ℕ) → Lawful n (form.key keys) (reader.read_key keys) (set key_first) (set (w.Text ∷ [])) false)
       → Lawful n (below (form.key keys)) (read_below (reader.read_key keys)) (set key_first) (set (w.Text ∷ [])) false
   below_key_law keys zero l = below_zero (form.key keys) (reader.read_key keys) _ _ false (l 0).some
   below_key_law keys (suc n) l = below_suc n (form.key keys) (reader.read_key keys) _ _ false (l n)
 
-  below_key_step : (keys : List Literal) → Step U n (below (form.key keys)) (read_below (reader.read_key keys)) key_first (w.Text ∷ []) false
+  below_key_step : (keys : List Literal) → Inward U n (below (form.key keys)) (read_below (reader.read_key keys)) key_first (w.Text ∷ []) false
   below_key_step keys = record {
     rule = record {
       up = λ j u. below_grows (form.key keys) (λ m. key_up U n keys m) j;
       law = λ x. below_key_law keys n (λ m. (key_step U m keys).rule.law x);
     };
+    dives = λ x. below_dives (form.key keys) (reader.read_key keys) (λ m. (key_step U m keys).dives x) n;
+    brief = let t = (text_key_step U n keys).brief in record { by_ = t.by_; value = t.value; gives = λ k. inr (inr (t.gives k)) };
   }
 
-  pair_step : (keys : List Literal) → Of (λ m l. form.pair m l keys) (λ m l. reader.read_pair m l keys) key_first (w.Text ∷ []) false
+  pair_step : (keys : List Literal) → Within (λ m l. form.pair m l keys) (λ m l. reader.read_pair m l keys) key_first (w.Text ∷ []) false
   unfolding reader.read_pair
   pair_step keys = then refl (below_key_step keys) (λ k. then refl (takes U n w.Colon) (λ u. then refl inside (λ v. makes U n (k, v))))
 
-  more_pairs_step : (keys : List Literal) → Of (λ m l. form.more_pairs m l keys) (λ m l. reader.read_more_pairs m l keys) (w.Comma ∷ []) (w.Comma ∷ w.Text ∷ key_first) true
+  more_pairs_step : (keys : List Literal) → Within (λ m l. form.more_pairs m l keys) (λ m l. reader.read_more_pairs m l keys) (w.Comma ∷ []) (w.Comma ∷ w.Text ∷ key_first) true
   more_pairs_step keys = wide refl refl (commas_by (λ s. among begins_key) with_key key_first (λ s. key_is) (λ s. refl) refl pair_step keys)
 
-  pairs_step : Of form.pairs reader.read_pairs key_first (w.Comma ∷ w.Text ∷ key_first) true
+  pairs_step : Within form.pairs reader.read_pairs key_first (w.Comma ∷ w.Text ∷ key_first) true
   unfolding reader.read_pairs
   pairs_step = wide refl refl (chooses (among begins_key) key_is refl (then refl (pair_step []) (λ p. then refl (more_pairs_step (with_key [] p)) (λ more. makes U n (p ∷ more)))) (makes U n []))
 
   curly_step : Of form.curly reader.read_curly (w.LeftCurly ∷ []) [] false
   unfolding reader.read_curly
-  curly_step = then refl (opens_with U n w.LeftCurly) (λ u. then refl pairs_step (λ all. then refl (takes U n w.RightCurly) (λ v. makes U n (value.Dict all))))
+  curly_step = opens_then U n w.LeftCurly refl (λ u. then refl pairs_step (λ all. then refl (takes U n w.RightCurly) (λ v. makes U n (value.Dict all))))
 
   pub deep_step : Of form.deep reader.read_deep literal_first (w.Text ∷ []) false
   unfolding reader.read_deep
@@ -395,39 +405,47 @@ module _ (U : ℕ → Type 0) (n : ℕ) (X : ℕ → Form Token Literal) (F : �
 
 -- ---- deep literals at every level
 
-inner_some : Completes inner_literal []
+pub inner_some : Brief inner_literal
 unfolding inner_literal
-inner_some = record { depth = 1; by_ = example w.Nothing ∷ []; value = value.Nothing; gives = λ k. inl (inr (inr (inr (constant_there, refl)))) }
+inner_some = record { by_ = example w.Nothing ∷ []; value = value.Nothing; gives = λ k. inl (inr (inr (inr (constant_there, refl)))) }
 
 abbrev On : ℕ → Type 0
 On j = Up j inner_literal
 
 abbrev Inner : ℕ → Type 0
-Inner n = Lawful n inner_literal read_inner_literal (set literal_first) (set (w.Text ∷ [])) false
+Inner n = Below n inner_literal read_inner_literal (set literal_first) (set (w.Text ∷ [])) false
 
 deep_at : (n : ℕ) → Inner n → Step On n (λ m. form.deep m (inner_literal m)) (λ m. reader.read_deep m (read_inner_literal m)) literal_first (w.Text ∷ []) false
-deep_at n l = deep_step On n inner_literal read_inner_literal (record { rule = base n _ _ _ _ false (λ j u. u) l })
+deep_at n l = deep_step On n inner_literal read_inner_literal (one_further n _ _ (λ j u. u) l inner_some)
 
 inner_zero : Inner 0
 unfolding inner_literal read_inner_literal
-inner_zero = down_zero inner_literal read_inner_literal _ _ false (λ a ts rest h. h) (λ ts. refl) inner_some
+inner_zero = nothing_below inner_literal read_inner_literal _ _ false (λ a ts rest h. h) (λ ts. refl) inner_some
 
 inner_up : (j : ℕ) → On j
 unfolding inner_literal
 inner_up zero = λ a ts rest h. absurd h
 inner_up (suc j) = (deep_at 0 inner_zero).rule.up j (inner_up j)
 
-pub inner_literal_lawful : (n : ℕ) → Inner n
+pub inner_literal_laws : (n : ℕ) → Inner n
 unfolding inner_literal read_inner_literal
-inner_literal_lawful zero = inner_zero
-inner_literal_lawful (suc n) = down_suc n inner_literal read_inner_literal _ _ false ((deep_at n (inner_literal_lawful n)).rule.law inner_up)
+inner_literal_laws zero = inner_zero
+inner_literal_laws (suc n) = from_outside n inner_literal read_inner_literal inner_up (deep_at n (inner_literal_laws n))
 
 pub inner_literal_grows : Grows inner_literal
 inner_literal_grows = inner_up
 
 pub deep_lawful : (n : ℕ) → Lawful n deep_literal read_deep_literal (set literal_first) (set (w.Text ∷ [])) false
 unfolding deep_literal
-deep_lawful n = (deep_at n (inner_literal_lawful n)).rule.law inner_up
+deep_lawful n = (deep_at n (inner_literal_laws n)).rule.law inner_up
+
+deep_dives : (n : ℕ) → Dives ⊥ n deep_literal read_deep_literal
+unfolding deep_literal
+deep_dives n = (deep_at n (inner_literal_laws n)).dives inner_up
+
+deep_brief : Brief deep_literal
+unfolding deep_literal
+deep_brief = (deep_at 0 inner_zero).brief
 
 pub deep_grows : Grows deep_literal
 unfolding deep_literal
@@ -438,11 +456,14 @@ deep_grows n = (deep_at 0 inner_zero).rule.up n (inner_up n)
 text_of_literal : (n : ℕ) → Step (λ j. Unit {0}) n form.literal_text reader.read_literal_text literal_first [] false
 unfolding reader.read_literal_text
 text_of_literal n =
-    let value : Step (λ j. Unit {0}) n deep_literal read_deep_literal literal_first (w.Text ∷ []) false = record { rule = base n _ _ _ _ false (λ j u. deep_grows j) (deep_lawful n) } in
+    let value : Step (λ j. Unit {0}) n deep_literal read_deep_literal literal_first (w.Text ∷ []) false = settled n _ _ deep_grows (deep_lawful n) (deep_dives n) deep_brief in
     wide refl refl (then refl value (λ v. then refl (takes (λ j. Unit {0}) n w.Newline) (λ u. then refl (takes (λ j. Unit {0}) n w.End) (λ x. makes (λ j. Unit {0}) n v))))
 
 pub literal_text_lawful : (n : ℕ) → Lawful n form.literal_text reader.read_literal_text (set literal_first) (set []) false
 literal_text_lawful n = (text_of_literal n).rule.law (λ j. tt)
+
+pub literal_text_dives : (n : ℕ) → Dives ⊥ n form.literal_text reader.read_literal_text
+literal_text_dives n = (text_of_literal n).dives (λ j. tt)
 
 pub literal_text_grows : Grows form.literal_text
 literal_text_grows n = (text_of_literal 0).rule.up n tt

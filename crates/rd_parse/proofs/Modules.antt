@@ -1,8 +1,9 @@
 -- The rules of functions and modules are lawful.
-use Rattle.std.proofs.Common.{◌≡◌, ℕ, zero, suc, Bool, true, false, not, List, [], ◌∷◌, None, Some, refl, codes, sym, ◌∙◌}
+use Rattle.std.proofs.Common.{◌≡◌, ℕ, zero, suc, Bool, true, false, not, List, [], ◌∷◌, None, Some, refl, codes, sym, ◌∙◌, inr}
 use Rattle.rd_syntax.specs.declared.token.TokenKind.TheVariants as kind
 use Rattle.rd_syntax.specs.declared.token.Token.{Token}
 use Rattle.rd_parse.specs.declared.terminal.Terminal.{Terminal}
+use Rattle.rd_value.specs.declared.value.Datum.TheVariants as value
 use Rattle.rd_parse.specs.declared.terminal.Terminal.TheVariants as w
 use Rattle.rd_parse.specs.declared.tree.Name.{Name}
 use Rattle.rd_parse.specs.Form.{Form, one, below}
@@ -19,13 +20,13 @@ use Rattle.rd_parse.specs.ModuleReading.{read_module}
 use Rattle.rd_parse.proofs.Laws.{Grows, Lawful}
 use Rattle.rd_parse.proofs.Depth.{below_grows, below_zero, below_suc}
 use Rattle.rd_parse.proofs.Loops.{Shrinks, shrinks_of}
-use Rattle.rd_parse.proofs.Rules.{base}
+use Rattle.rd_parse.proofs.Dive.{Brief, Dives, below_dives}
 use Rattle.rd_parse.proofs.Sets.{holds_one, holds_same, set}
 use Rattle.rd_parse.proofs.Samples.{sample, example}
-use Rattle.rd_parse.proofs.Steps.{Step, wide, carries, takes, opens_with, makes, then, chooses, each, tests, commas, commas_by}
+use Rattle.rd_parse.proofs.Steps.{Step, Inward, settled, one_further, opens_then, wide, carries, takes, makes, then, chooses, each, tests, commas, commas_by}
 use Rattle.rd_parse.proofs.Expressions.{name_is, text_is, name_there}
-use Rattle.rd_parse.proofs.Literals.{literal_first, plain_first, literal_step, texts_step, inner_literal_lawful, inner_literal_grows}
-use Rattle.rd_parse.proofs.Statements.{part_first, annotation_more, annotation_lawful, annotation_grows, annotated_step, block_lawful, block_grows}
+use Rattle.rd_parse.proofs.Literals.{literal_first, plain_first, literal_step, constant_there, texts_step, inner_literal_laws, inner_some, inner_literal_grows}
+use Rattle.rd_parse.proofs.Statements.{part_first, annotation_more, annotation_lawful, annotation_dives, annotation_brief, annotation_grows, annotated_step, block_lawful, block_dives, block_brief, block_grows}
 
 -- ---- single tokens
 
@@ -88,11 +89,17 @@ def_there = refl
 literal_law : (n : ℕ) → Lawful n literal read_literal (set plain_first) (set (w.Text ∷ [])) false
 literal_law n = (literal_step (λ j. Unit {0}) n).rule.law (λ j. tt)
 
+literal_dives : (n : ℕ) → Dives ⊥ n literal read_literal
+literal_dives n = (literal_step (λ j. Unit {0}) n).dives (λ j. tt)
+
 literal_grows : Grows literal
 literal_grows n = (literal_step (λ j. Unit {0}) 0).rule.up n tt
 
 annotated_law : (n : ℕ) → Lawful n annotated read_annotated (set (w.Colon ∷ [])) (set (w.Colon ∷ annotation_more)) true
 annotated_law n = (annotated_step (λ j. Unit {0}) n).rule.law (λ j. tt)
+
+annotated_dives : (n : ℕ) → Dives ⊥ n annotated read_annotated
+annotated_dives n = (annotated_step (λ j. Unit {0}) n).dives (λ j. tt)
 
 annotated_grows : Grows annotated
 annotated_grows n = (annotated_step (λ j. Unit {0}) 0).rule.up n tt
@@ -105,6 +112,14 @@ below_annotated : (n : ℕ) → Lawful n (below annotated) (read_below read_anno
 below_annotated zero = below_zero annotated read_annotated _ _ true (annotated_law 0).some
 below_annotated (suc n) = below_suc n annotated read_annotated _ _ true (annotated_law n)
 
+-- what needs no level
+nothing_alone : Brief (below literal)
+nothing_alone = record { by_ = example w.Nothing ∷ []; value = value.Nothing; gives = λ k. inr (inr (inr (constant_there, refl))) }
+
+none_annotated : (k : List Token) → annotated 0 tt k k
+unfolding annotated
+none_annotated k = inr (refl, refl)
+
 -- the forms hold by themselves
 abbrev Free : ℕ → Type 0
 Free j = Unit {0}
@@ -113,26 +128,29 @@ module _ (n : ℕ) where
   abbrev Of : {A : Type 0} → (ℕ → Form Token A) → (ℕ → Reader Token A) → List Terminal → List Terminal → Bool → Type 0
   Of P f = Step Free n P f
 
+  abbrev Within : {A : Type 0} → (ℕ → Form Token A) → (ℕ → Reader Token A) → List Terminal → List Terminal → Bool → Type 0
+  Within P f = Inward Free n P f
+
   a_name : Of (λ _. one name_of) (λ _. read_one name_of) (w.Name ∷ []) [] false
   a_name = carries Free n name_of (w.Name ∷ []) (example w.Name) _ name_there (λ t h. name_is t ∙ h)
 
   -- ---- options
 
-  value_step : Of inner_literal read_inner_literal literal_first (w.Text ∷ []) false
-  value_step = record { rule = base n _ _ _ _ false (λ j u. inner_literal_grows j) (inner_literal_lawful n) }
+  value_step : Within inner_literal read_inner_literal literal_first (w.Text ∷ []) false
+  value_step = one_further n _ _ (λ j u. inner_literal_grows j) (inner_literal_laws n) inner_some
 
-  option_step : Of form.option reader.read_option (w.Name ∷ []) (w.Text ∷ []) false
+  option_step : Within form.option reader.read_option (w.Name ∷ []) (w.Text ∷ []) false
   unfolding reader.read_option
   option_step = then refl a_name (λ name. then refl (takes Free n w.Assign) (λ u. then refl value_step (λ v. makes Free n (record { name = name; value = v }))))
 
-  options_step : Of form.options reader.read_options (w.Name ∷ []) (w.Name ∷ w.Comma ∷ w.Text ∷ []) true
+  options_step : Within form.options reader.read_options (w.Name ∷ []) (w.Name ∷ w.Comma ∷ w.Text ∷ []) true
   unfolding reader.read_options
   options_step = wide refl refl (chooses (hits name_of) name_is refl (then refl option_step (λ e. then refl (commas (hits name_of) name_is refl refl option_step) (λ more. makes Free n (e ∷ more)))) (makes Free n []))
 
   given_options_step : Of form.given_options reader.read_given_options (w.LeftParen ∷ []) (w.LeftParen ∷ []) true
   unfolding reader.read_given_options
   given_options_step =
-      wide refl refl (chooses (hits (is w.LeftParen)) (tests w.LeftParen) refl (then refl (opens_with Free n w.LeftParen) (λ u. then refl options_step (λ all. then refl (takes Free n w.RightParen) (λ v. makes Free n all)))) (makes Free n []))
+      wide refl refl (chooses (hits (is w.LeftParen)) (tests w.LeftParen) refl (opens_then Free n w.LeftParen refl (λ u. then refl options_step (λ all. then refl (takes Free n w.RightParen) (λ v. makes Free n all)))) (makes Free n []))
 
   decorator_step : Of form.decorator reader.read_decorator (w.At ∷ []) [] false
   unfolding reader.read_decorator
@@ -146,13 +164,13 @@ module _ (n : ℕ) where
 
   -- ---- parameters
 
-  plain_step : Of (below literal) (read_below read_literal) plain_first (w.Text ∷ []) false
-  plain_step = record { rule = base n _ _ _ _ false (λ j u. below_grows literal literal_grows j) (below_literal n) }
+  plain_step : Within (below literal) (read_below read_literal) plain_first (w.Text ∷ []) false
+  plain_step = one_further n _ _ (λ j u. below_grows literal literal_grows j) (record { law = below_literal n; dives = below_dives literal read_literal literal_dives n }) nothing_alone
 
-  annotation_step : Of (below annotated) (read_below read_annotated) (w.Colon ∷ []) (w.Colon ∷ annotation_more) true
-  annotation_step = record { rule = base n _ _ _ _ true (λ j u. below_grows annotated annotated_grows j) (below_annotated n) }
+  annotation_step : Within (below annotated) (read_below read_annotated) (w.Colon ∷ []) (w.Colon ∷ annotation_more) true
+  annotation_step = one_further n _ _ (λ j u. below_grows annotated annotated_grows j) (record { law = below_annotated n; dives = below_dives annotated read_annotated annotated_dives n }) (record { by_ = []; value = tt; gives = λ k. none_annotated k })
 
-  with_default_step : (name : Name) → Of (λ m. form.with_default m name) (λ m. reader.read_with_default m name) (w.Assign ∷ []) (w.Text ∷ []) false
+  with_default_step : (name : Name) → Within (λ m. form.with_default m name) (λ m. reader.read_with_default m name) (w.Assign ∷ []) (w.Text ∷ []) false
   unfolding reader.read_with_default
   with_default_step name = then refl (takes Free n w.Assign) (λ u. then refl plain_step (λ v. makes Free n (record { name = name; default = Some v })))
 
@@ -160,14 +178,14 @@ module _ (n : ℕ) where
   abbrev optional : Bool → Bool
   optional s = not s
 
-  default_step : (name : Name) (s : Bool) → Of (λ m. form.default_for m name s) (λ m. reader.read_default_for m name s) (w.Assign ∷ []) (w.Assign ∷ w.Text ∷ []) (optional s)
+  default_step : (name : Name) (s : Bool) → Within (λ m. form.default_for m name s) (λ m. reader.read_default_for m name s) (w.Assign ∷ []) (w.Assign ∷ w.Text ∷ []) (optional s)
   default_step name false = wide refl refl (chooses (hits (is w.Assign)) (tests w.Assign) refl (with_default_step name) (makes Free n (record { name = name; default = None })))
   default_step name true = wide refl refl (with_default_step name)
 
   abbrev parameter_more : List Terminal
   parameter_more = w.Assign ∷ w.Text ∷ w.Colon ∷ annotation_more
 
-  parameter_step : (s : Bool) → Of (λ m. form.parameter m s) (λ m. reader.read_parameter m s) (w.Name ∷ []) parameter_more false
+  parameter_step : (s : Bool) → Within (λ m. form.parameter m s) (λ m. reader.read_parameter m s) (w.Name ∷ []) parameter_more false
   unfolding reader.read_parameter
   parameter_step false = wide refl refl (then refl a_name (λ name. then refl annotation_step (λ u. default_step name false)))
   parameter_step true = wide refl refl (then refl a_name (λ name. then refl annotation_step (λ u. default_step name true)))
@@ -175,10 +193,10 @@ module _ (n : ℕ) where
   abbrev parameters_more : List Terminal
   parameters_more = w.Comma ∷ w.Name ∷ parameter_more
 
-  more_parameters_step : (s : Bool) → Of (λ m. form.more_parameters m s) (λ m. reader.read_more_parameters m s) (w.Comma ∷ []) parameters_more true
+  more_parameters_step : (s : Bool) → Within (λ m. form.more_parameters m s) (λ m. reader.read_more_parameters m s) (w.Comma ∷ []) parameters_more true
   more_parameters_step s = wide refl refl (commas_by (λ s. hits name_of) defaulted (w.Name ∷ []) (λ s. name_is) (λ s. refl) refl parameter_step s)
 
-  parameters_step : Of form.parameters reader.read_parameters (w.Name ∷ []) parameters_more true
+  parameters_step : Within form.parameters reader.read_parameters (w.Name ∷ []) parameters_more true
   unfolding reader.read_parameters
   parameters_step =
       wide refl refl (chooses (hits name_of) name_is refl (then refl (parameter_step false) (λ p. then refl (more_parameters_step (defaulted false p)) (λ more. makes Free n (p ∷ more)))) (makes Free n []))
@@ -186,7 +204,7 @@ module _ (n : ℕ) where
   -- ---- functions
 
   kind_step : Of annotation read_annotation part_first annotation_more false
-  kind_step = record { rule = base n _ _ _ _ false (λ j u. annotation_grows j) (annotation_lawful n) }
+  kind_step = settled n _ _ annotation_grows (annotation_lawful n) (annotation_dives n) annotation_brief
 
   returned_step : Of form.returned reader.read_returned (w.Arrow ∷ []) (w.Arrow ∷ annotation_more) true
   unfolding reader.read_returned
@@ -196,10 +214,10 @@ module _ (n : ℕ) where
   unfolding reader.read_head
   head_step =
       wide refl refl (then refl (carries Free n (line_of w.Def) (w.Def ∷ []) (example w.Def) 0 def_there (line_within w.Def))
-      (λ line. then refl a_name (λ name. then refl (opens_with Free n w.LeftParen) (λ u. then refl parameters_step (λ all. then refl (takes Free n w.RightParen) (λ v. then refl returned_step (λ x. makes Free n (at_line name line, all))))))))
+      (λ line. then refl a_name (λ name. opens_then Free n w.LeftParen refl (λ u. then refl parameters_step (λ all. then refl (takes Free n w.RightParen) (λ v. then refl returned_step (λ x. makes Free n (at_line name line, all))))))))
 
   block_step : Of a_block read_a_block (w.Colon ∷ []) [] false
-  block_step = record { rule = base n _ _ _ _ false (λ j u. block_grows j) (block_lawful n) }
+  block_step = settled n _ _ block_grows (block_lawful n) (block_dives n) block_brief
 
   function_step : Of form.function reader.read_function (w.At ∷ w.Def ∷ []) [] false
   unfolding reader.read_function
@@ -229,7 +247,7 @@ module _ (n : ℕ) where
 
   names_in_step : Of form.names_in reader.read_names_in (w.LeftParen ∷ []) [] false
   unfolding reader.read_names_in
-  names_in_step = then refl (opens_with Free n w.LeftParen) (λ u. then refl (takes Free n w.Name) (λ v. then refl names_behind_step (λ x. takes Free n w.RightParen)))
+  names_in_step = opens_then Free n w.LeftParen refl (λ u. then refl (takes Free n w.Name) (λ v. then refl names_behind_step (λ x. takes Free n w.RightParen)))
 
   import_step : Of form.import_line reader.read_import_line (w.From ∷ []) [] false
   unfolding reader.read_import_line
@@ -268,6 +286,9 @@ module _ (n : ℕ) where
 
 pub module_lawful : (n : ℕ) → Lawful n module_form read_module (set (w.End ∷ module_first)) (set []) false
 module_lawful n = (module_step n).rule.law (λ j. tt)
+
+pub module_dives : (n : ℕ) → Dives ⊥ n module_form read_module
+module_dives n = (module_step n).dives (λ j. tt)
 
 pub module_grows : Grows module_form
 module_grows n = (module_step 0).rule.up n tt

@@ -11,12 +11,12 @@ use Rattle.rd_parse.specs.Expressions as form
 use Rattle.rd_parse.specs.Expressions.{Tree, Level, level}
 use Rattle.rd_parse.specs.Reading as reader
 use Rattle.rd_parse.specs.Reading.{Readers, inner}
-use Rattle.rd_parse.proofs.Laws.{Grows, Completes, Lawful}
-use Rattle.rd_parse.proofs.Depth.{down_zero, down_suc}
-use Rattle.rd_parse.proofs.Rules.{Up, base}
+use Rattle.rd_parse.proofs.Laws.{Grows, Lawful}
+use Rattle.rd_parse.proofs.Dive.{Below, Brief, Dives, nothing_below}
+use Rattle.rd_parse.proofs.Rules.{Up}
 use Rattle.rd_parse.proofs.Sets.{set, sets_apart}
 use Rattle.rd_parse.proofs.Samples.{example}
-use Rattle.rd_parse.proofs.Steps.{Step, tests}
+use Rattle.rd_parse.proofs.Steps.{Step, Inward, one_further, from_outside, tests}
 use Rattle.rd_parse.proofs.Expressions as rule
 use Rattle.rd_parse.proofs.Expressions.{first, factor_first, part_first, factor_more, comparison_more, disjunction_more, expression_more, parts_more, Lone, name_there, there_some}
 
@@ -44,40 +44,37 @@ module _ (n : ℕ) (in_ : Level) (name : Name) (t : Token) (rest : List Token) (
 abbrev some_name : Name
 some_name = record { text = codes "path"; line = 0 }
 
-abbrev AtName : (ℕ → Form Token Tree) → Type 0
-AtName P = Completes P []
+completes_by : (P : ℕ → Form Token Tree) → ((k : List Token) → P 1 (node.Name some_name) (example w.Name ∷ k) k) → Brief P
+completes_by P h = record { by_ = example w.Name ∷ []; value = node.Name some_name; gives = h }
 
-completes_by : (P : ℕ → Form Token Tree) → ((k : List Token) → P 1 (node.Name some_name) (example w.Name ∷ k) k) → Completes P []
-completes_by P h = record { depth = 1; by_ = example w.Name ∷ []; value = node.Name some_name; gives = h }
-
-expression_some : Completes (λ m. (level m).expression) []
+expression_some : Brief (λ m. (level m).expression)
 unfolding level
 expression_some = completes_by (λ m. (level m).expression) (λ k. lone_expression 0 (level 0) some_name (example w.Name) k name_there)
 
-disjunction_some : Completes (λ m. (level m).disjunction) []
+disjunction_some : Brief (λ m. (level m).disjunction)
 unfolding level
 disjunction_some = completes_by (λ m. (level m).disjunction) (λ k. lone_disjunction 0 (level 0) some_name (example w.Name) k name_there)
 
-inversion_some : Completes (λ m. (level m).inversion) []
+inversion_some : Brief (λ m. (level m).inversion)
 unfolding level
 inversion_some = completes_by (λ m. (level m).inversion) (λ k. lone_inversion 0 (level 0) some_name (example w.Name) k name_there)
 
-factor_some : Completes (λ m. (level m).factor) []
+factor_some : Brief (λ m. (level m).factor)
 unfolding level
 factor_some = completes_by (λ m. (level m).factor) (λ k. lone_factor 0 (level 0) some_name (example w.Name) k name_there)
 
-parts_some : (e : Tree) → Completes (λ m. (level m).parts e) []
+parts_some : (e : Tree) → Brief (λ m. (level m).parts e)
 unfolding level
-parts_some e = record { depth = 1; by_ = []; value = e; gives = λ k. inr (refl, refl) }
+parts_some e = record { by_ = []; value = e; gives = λ k. inr (refl, refl) }
 
 -- ---- the laws of what stands one level further in
 
 pub record Inside (n : ℕ) : Type 0 where
-  pub expression : Lawful n (λ m. (level m).expression) (λ m. (inner m).expression) (set first) (set expression_more) false
-  pub disjunction : Lawful n (λ m. (level m).disjunction) (λ m. (inner m).disjunction) (set first) (set disjunction_more) false
-  pub inversion : Lawful n (λ m. (level m).inversion) (λ m. (inner m).inversion) (set first) (set comparison_more) false
-  pub factor : Lawful n (λ m. (level m).factor) (λ m. (inner m).factor) (set factor_first) (set factor_more) false
-  pub parts : (e : Tree) → Lawful n (λ m. (level m).parts e) (λ m. (inner m).parts e) (set part_first) (set parts_more) true
+  pub expression : Below n (λ m. (level m).expression) (λ m. (inner m).expression) (set first) (set expression_more) false
+  pub disjunction : Below n (λ m. (level m).disjunction) (λ m. (inner m).disjunction) (set first) (set disjunction_more) false
+  pub inversion : Below n (λ m. (level m).inversion) (λ m. (inner m).inversion) (set first) (set comparison_more) false
+  pub factor : Below n (λ m. (level m).factor) (λ m. (inner m).factor) (set factor_first) (set factor_more) false
+  pub parts : (e : Tree) → Below n (λ m. (level m).parts e) (λ m. (inner m).parts e) (set part_first) (set parts_more) true
 
 pub record Ups (j : ℕ) : Type 0 where
   pub expression : Up j (λ m. (level m).expression)
@@ -87,20 +84,20 @@ pub record Ups (j : ℕ) : Type 0 where
   pub parts : (e : Tree) → Up j (λ m. (level m).parts e)
 
 module _ (n : ℕ) (l : Inside n) (lone : Lone n level inner) where
-  expression_inside : Step Ups n (λ m. (level m).expression) (λ m. (inner m).expression) first expression_more false
-  expression_inside = record { rule = base n _ _ _ _ false (λ j u. u.expression) l.expression }
+  expression_inside : Inward Ups n (λ m. (level m).expression) (λ m. (inner m).expression) first expression_more false
+  expression_inside = one_further n _ _ (λ j u. u.expression) l.expression expression_some
 
-  disjunction_inside : Step Ups n (λ m. (level m).disjunction) (λ m. (inner m).disjunction) first disjunction_more false
-  disjunction_inside = record { rule = base n _ _ _ _ false (λ j u. u.disjunction) l.disjunction }
+  disjunction_inside : Inward Ups n (λ m. (level m).disjunction) (λ m. (inner m).disjunction) first disjunction_more false
+  disjunction_inside = one_further n _ _ (λ j u. u.disjunction) l.disjunction disjunction_some
 
-  inversion_inside : Step Ups n (λ m. (level m).inversion) (λ m. (inner m).inversion) first comparison_more false
-  inversion_inside = record { rule = base n _ _ _ _ false (λ j u. u.inversion) l.inversion }
+  inversion_inside : Inward Ups n (λ m. (level m).inversion) (λ m. (inner m).inversion) first comparison_more false
+  inversion_inside = one_further n _ _ (λ j u. u.inversion) l.inversion inversion_some
 
-  factor_inside : Step Ups n (λ m. (level m).factor) (λ m. (inner m).factor) factor_first factor_more false
-  factor_inside = record { rule = base n _ _ _ _ false (λ j u. u.factor) l.factor }
+  factor_inside : Inward Ups n (λ m. (level m).factor) (λ m. (inner m).factor) factor_first factor_more false
+  factor_inside = one_further n _ _ (λ j u. u.factor) l.factor factor_some
 
-  parts_inside : (e : Tree) → Step Ups n (λ m. (level m).parts e) (λ m. (inner m).parts e) part_first parts_more true
-  parts_inside e = record { rule = base n _ _ _ _ true (λ j u. u.parts e) (l.parts e) }
+  parts_inside : (e : Tree) → Inward Ups n (λ m. (level m).parts e) (λ m. (inner m).parts e) part_first parts_more true
+  parts_inside e = one_further n _ _ (λ j u. u.parts e) (l.parts e) (parts_some e)
 
   pub at_conditional : Step Ups n (λ m. form.conditional m (level m)) (λ m. reader.read_conditional m (inner m)) first expression_more false
   at_conditional = rule.conditional_step Ups n level inner expression_inside disjunction_inside inversion_inside factor_inside parts_inside lone
@@ -120,16 +117,16 @@ module _ (n : ℕ) (l : Inside n) (lone : Lone n level inner) where
 inside_zero : Inside 0
 unfolding level inner
 inside_zero = record {
-  expression = down_zero (λ m. (level m).expression) (λ m. (inner m).expression) _ _ false (λ a ts rest h. h) (λ ts. refl) expression_some;
-  disjunction = down_zero (λ m. (level m).disjunction) (λ m. (inner m).disjunction) _ _ false (λ a ts rest h. h) (λ ts. refl) disjunction_some;
-  inversion = down_zero (λ m. (level m).inversion) (λ m. (inner m).inversion) _ _ false (λ a ts rest h. h) (λ ts. refl) inversion_some;
-  factor = down_zero (λ m. (level m).factor) (λ m. (inner m).factor) _ _ false (λ a ts rest h. h) (λ ts. refl) factor_some;
-  parts = λ e. down_zero (λ m. (level m).parts e) (λ m. (inner m).parts e) _ _ true (λ a ts rest h. h) (λ ts. refl) (parts_some e);
+  expression = nothing_below (λ m. (level m).expression) (λ m. (inner m).expression) _ _ false (λ a ts rest h. h) (λ ts. refl) expression_some;
+  disjunction = nothing_below (λ m. (level m).disjunction) (λ m. (inner m).disjunction) _ _ false (λ a ts rest h. h) (λ ts. refl) disjunction_some;
+  inversion = nothing_below (λ m. (level m).inversion) (λ m. (inner m).inversion) _ _ false (λ a ts rest h. h) (λ ts. refl) inversion_some;
+  factor = nothing_below (λ m. (level m).factor) (λ m. (inner m).factor) _ _ false (λ a ts rest h. h) (λ ts. refl) factor_some;
+  parts = λ e. nothing_below (λ m. (level m).parts e) (λ m. (inner m).parts e) _ _ true (λ a ts rest h. h) (λ ts. refl) (parts_some e);
 }
 
 lone_zero : Lone 0 level inner
 unfolding level inner
-lone_zero = inr (λ x ts rest h. h, λ ts. refl)
+lone_zero = inr (λ x ts rest h. h, λ ts. refl, refl)
 
 ups : (j : ℕ) → Ups j
 unfolding level
@@ -145,11 +142,11 @@ ups (suc j) = record {
 inside_suc : (n : ℕ) → Inside n → Lone n level inner → Inside (suc n)
 unfolding level inner
 inside_suc n l lone = record {
-  expression = down_suc n (λ m. (level m).expression) (λ m. (inner m).expression) _ _ false ((at_conditional n l lone).rule.law ups);
-  disjunction = down_suc n (λ m. (level m).disjunction) (λ m. (inner m).disjunction) _ _ false ((at_disjunction n l lone).rule.law ups);
-  inversion = down_suc n (λ m. (level m).inversion) (λ m. (inner m).inversion) _ _ false ((at_inversion n l lone).rule.law ups);
-  factor = down_suc n (λ m. (level m).factor) (λ m. (inner m).factor) _ _ false ((at_factor n l lone).rule.law ups);
-  parts = λ e. down_suc n (λ m. (level m).parts e) (λ m. (inner m).parts e) _ _ true ((at_parts n l lone e).rule.law ups);
+  expression = from_outside n (λ m. (level m).expression) (λ m. (inner m).expression) ups (at_conditional n l lone);
+  disjunction = from_outside n (λ m. (level m).disjunction) (λ m. (inner m).disjunction) ups (at_disjunction n l lone);
+  inversion = from_outside n (λ m. (level m).inversion) (λ m. (inner m).inversion) ups (at_inversion n l lone);
+  factor = from_outside n (λ m. (level m).factor) (λ m. (inner m).factor) ups (at_factor n l lone);
+  parts = λ e. from_outside n (λ m. (level m).parts e) (λ m. (inner m).parts e) ups (at_parts n l lone e);
 }
 
 assign_ends : (u : Token) (after : List Token) → hits (is w.Assign) u ≡ true → sees (set expression_more) (u ∷ after) ≡ false
@@ -170,6 +167,14 @@ at_level (suc n) = let d = at_level n in (inside_suc n d.0 d.1, lone_suc n d.0 d
 pub expression_lawful : (n : ℕ) → Lawful n form.expression reader.read_expression (set first) (set expression_more) false
 unfolding form.expression
 expression_lawful n = let d = at_level n in (at_conditional n d.0 d.1).rule.law ups
+
+pub expression_dives : (n : ℕ) → Dives ⊥ n form.expression reader.read_expression
+unfolding form.expression
+expression_dives n = let d = at_level n in (at_conditional n d.0 d.1).dives ups
+
+pub expression_brief : Brief form.expression
+unfolding form.expression
+expression_brief = (at_conditional 0 inside_zero lone_zero).brief
 
 pub expression_grows : Grows form.expression
 unfolding form.expression

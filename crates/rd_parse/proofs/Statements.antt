@@ -16,16 +16,18 @@ use Rattle.rd_parse.specs.Statements as form
 use Rattle.rd_parse.specs.Statements.{Command, plus_value, spoken, kept, begins_assignment, begins_statement, annotation, inner_annotation, annotated, behind_colon, a_block}
 use Rattle.rd_parse.specs.StatementReading as reader
 use Rattle.rd_parse.specs.StatementReading.{assigns, read_annotation, read_inner_annotation, read_annotated, read_behind_colon, read_a_block}
-use Rattle.rd_parse.proofs.Laws.{Grows, Completes, Lawful, got, got_rest, stopped_rest, or_none}
-use Rattle.rd_parse.proofs.Depth.{below_grows, below_zero, below_suc, down_zero, down_suc}
+use Rattle.rd_parse.proofs.Laws.{Grows, Lawful, got, got_rest, stopped, stopped_rest, or_none}
+use Rattle.rd_parse.proofs.Depth.{below_grows, below_zero, below_suc}
 use Rattle.rd_parse.proofs.More.{way, begins}
-use Rattle.rd_parse.proofs.Rules.{Up, base, and_false}
+use Rattle.rd_parse.proofs.Rules.{Up, and_false}
 use Rattle.rd_parse.proofs.Pick.{Apart2, eager_by}
 use Rattle.rd_parse.proofs.Sets.{holds_one, set, join_set, and_both, by_way, sets_apart}
 use Rattle.rd_parse.proofs.Samples.{example, example_is}
-use Rattle.rd_parse.proofs.Steps.{Step, wide, carries, takes, opens_with, makes, then, chooses, each, tests, picks}
+use Rattle.rd_parse.proofs.Steps.{Step, Inward, settled, one_further, from_outside, opens_then, wide, carries, takes, makes, then, chooses, each, tests, picks}
 use Rattle.rd_parse.proofs.Expressions.{first, expression_more, first_is, name_is, name_there, there_some}
-use Rattle.rd_parse.proofs.Nested.{lone_expression, expression_lawful, expression_grows}
+use Rattle.rd_parse.proofs.Dive.{Below, Brief, Dives, nothing_below, below_dives, noting_dives, noting_ends, sunk, not_sunk}
+use Rattle.rd_parse.proofs.DiveTurns.{Firsts}
+use Rattle.rd_parse.proofs.Nested.{expression_dives, expression_brief, lone_expression, expression_lawful, expression_grows}
 use Rattle.rd_parse.proofs.Loops.{Shrinks, shrinks_of}
 use Rattle.rd_parse.proofs.Noting.{noting_lawful}
 
@@ -78,9 +80,12 @@ text_there = refl
 
 -- ---- annotations
 
-module _ (U : ℕ → Type 0) (n : ℕ) (X : ℕ → Form Token (Unit {0})) (F : ℕ → Reader Token (Unit {0})) (inside : Step U n X F part_first annotation_more false) where
+module _ (U : ℕ → Type 0) (n : ℕ) (X : ℕ → Form Token (Unit {0})) (F : ℕ → Reader Token (Unit {0})) (inside : Inward U n X F part_first annotation_more false) where
   abbrev Kind : (ℕ → Form Token (Unit {0}) → Form Token (Unit {0})) → (ℕ → Reader Token (Unit {0}) → Reader Token (Unit {0})) → List Terminal → List Terminal → Bool → Type 0
   Kind P f = Step U n (λ m. P m (X m)) (λ m. f m (F m))
+
+  abbrev Within : (ℕ → Form Token (Unit {0}) → Form Token (Unit {0})) → (ℕ → Reader Token (Unit {0}) → Reader Token (Unit {0})) → List Terminal → List Terminal → Bool → Type 0
+  Within P f = Inward U n (λ m. P m (X m)) (λ m. f m (F m))
 
   pub dotted_name_step : Step U n (λ _. form.dotted_name) (λ _. reader.read_dotted_name) (w.Dot ∷ []) [] false
   unfolding reader.read_dotted_name
@@ -94,17 +99,17 @@ module _ (U : ℕ → Type 0) (n : ℕ) (X : ℕ → Form Token (Unit {0})) (F :
   unfolding reader.read_kind
   kind_step = wide refl refl (chooses (hits (is w.Name)) (tests w.Name) refl long_name_step (chooses (hits (is w.Nothing)) (tests w.Nothing) refl (takes U n w.Nothing) (takes U n w.Text)))
 
-  pub another_step : Kind form.another reader.read_another (w.Comma ∷ []) annotation_more false
+  pub another_step : Within form.another reader.read_another (w.Comma ∷ []) annotation_more false
   unfolding reader.read_another
   another_step = then refl (takes U n w.Comma) (λ u. inside)
 
-  others_step : Kind form.others reader.read_others (w.Comma ∷ []) (w.Comma ∷ annotation_more) true
+  others_step : Within form.others reader.read_others (w.Comma ∷ []) (w.Comma ∷ annotation_more) true
   unfolding reader.read_others
   others_step = wide refl refl (then refl (each (hits (is w.Comma)) (tests w.Comma) refl another_step) (λ more. makes U n tt))
 
   of_kinds_step : Kind form.of_kinds reader.read_of_kinds (w.LeftSquare ∷ []) [] false
   unfolding reader.read_of_kinds
-  of_kinds_step = then refl (opens_with U n w.LeftSquare) (λ u. then refl inside (λ v. then refl others_step (λ x. then refl (takes U n w.RightSquare) (λ y. makes U n tt))))
+  of_kinds_step = opens_then U n w.LeftSquare refl (λ u. then refl inside (λ v. then refl others_step (λ x. then refl (takes U n w.RightSquare) (λ y. makes U n tt))))
 
   union_part_step : Kind form.union_part reader.read_union_part part_first part_more false
   unfolding reader.read_union_part
@@ -121,10 +126,9 @@ module _ (U : ℕ → Type 0) (n : ℕ) (X : ℕ → Form Token (Unit {0})) (F :
 none_there : is w.Nothing (example w.Nothing) ≡ Some tt
 none_there = example_is w.Nothing
 
-annotation_some : Completes inner_annotation []
+annotation_some : Brief inner_annotation
 unfolding inner_annotation
 annotation_some = record {
-  depth = 1;
   by_ = example w.Nothing ∷ [];
   value = tt;
   gives = λ k. (tt, k, (tt, k, inr (inl (none_there, refl)), inr (refl, refl)), ([], k, refl, (refl, refl)));
@@ -134,17 +138,17 @@ abbrev On : ℕ → Type 0
 On j = Up j inner_annotation
 
 abbrev Annotations : ℕ → Type 0
-Annotations n = Lawful n inner_annotation read_inner_annotation (set part_first) (set annotation_more) false
+Annotations n = Below n inner_annotation read_inner_annotation (set part_first) (set annotation_more) false
 
-inside_at : (n : ℕ) → Annotations n → Step On n inner_annotation read_inner_annotation part_first annotation_more false
-inside_at n l = record { rule = base n _ _ _ _ false (λ j u. u) l }
+inside_at : (n : ℕ) → Annotations n → Inward On n inner_annotation read_inner_annotation part_first annotation_more false
+inside_at n l = one_further n _ _ (λ j u. u) l annotation_some
 
 union_at : (n : ℕ) → Annotations n → Step On n (λ m. form.union m (inner_annotation m)) (λ m. reader.read_union m (read_inner_annotation m)) part_first annotation_more false
 union_at n l = union_step On n inner_annotation read_inner_annotation (inside_at n l)
 
 annotations_zero : Annotations 0
 unfolding inner_annotation read_inner_annotation
-annotations_zero = down_zero inner_annotation read_inner_annotation _ _ false (λ a ts rest h. h) (λ ts. refl) annotation_some
+annotations_zero = nothing_below inner_annotation read_inner_annotation _ _ false (λ a ts rest h. h) (λ ts. refl) annotation_some
 
 annotations_up : (j : ℕ) → On j
 unfolding inner_annotation
@@ -154,18 +158,26 @@ annotations_up (suc j) = (union_at 0 annotations_zero).rule.up j (annotations_up
 annotations_at : (n : ℕ) → Annotations n
 unfolding inner_annotation read_inner_annotation
 annotations_at zero = annotations_zero
-annotations_at (suc n) = down_suc n inner_annotation read_inner_annotation _ _ false ((union_at n (annotations_at n)).rule.law annotations_up)
+annotations_at (suc n) = from_outside n inner_annotation read_inner_annotation annotations_up (union_at n (annotations_at n))
 
 pub annotation_lawful : (n : ℕ) → Lawful n annotation read_annotation (set part_first) (set annotation_more) false
 unfolding annotation
 annotation_lawful n = (union_at n (annotations_at n)).rule.law annotations_up
+
+pub annotation_dives : (n : ℕ) → Dives ⊥ n annotation read_annotation
+unfolding annotation
+annotation_dives n = (union_at n (annotations_at n)).dives annotations_up
+
+pub annotation_brief : Brief annotation
+unfolding annotation
+annotation_brief = (union_at 0 annotations_zero).brief
 
 pub annotation_grows : Grows annotation
 unfolding annotation
 annotation_grows n = (union_at 0 annotations_zero).rule.up n (annotations_up n)
 
 annotation_base : (U : ℕ → Type 0) (n : ℕ) → Step U n annotation read_annotation part_first annotation_more false
-annotation_base U n = record { rule = base n _ _ _ _ false (λ j u. annotation_grows j) (annotation_lawful n) }
+annotation_base U n = settled n _ _ annotation_grows (annotation_lawful n) (annotation_dives n) annotation_brief
 
 pub annotated_step : (U : ℕ → Type 0) (n : ℕ) → Step U n annotated read_annotated (w.Colon ∷ []) (w.Colon ∷ annotation_more) true
 unfolding annotated read_annotated
@@ -247,18 +259,41 @@ module _ (n : ℕ)
   other_apart : Apart2 n (hits name_of) assigns (set other_behind) form.assignment form.speaking reader.read_assignment reader.read_speaking
   other_apart = record { pairs = λ x ts rest h m. assignment_pairs x ts rest h; alone = speaking_alone; eager_pair = assignment_eager; eager_alone = speaking_eager }
 
+  other_firsts : Firsts ⊥ n (hits name_of) assigns reader.read_assignment reader.read_speaking
+  unfolding reader.read_assignment reader.read_assigned reader.read_giving read_annotated reader.read_speaking
+  other_firsts = record {
+    pairs = λ t name sinks k p.
+        let a = there_some (name_of t) name in
+        let s = sinks [] in
+        let other : reader.read_assignment n (t ∷ []) ≡ Err (Refused []) = rw a.1 refl in
+        absurd (let bad : stopped {T = Token} {A = Option Command} [] ≡ sunk s.0 = sym other ∙ s.1 in cc);
+    alone = λ t name sinks.
+        let a = lone_read n t (example w.Assign) [] name assign_first in
+        let x : Option Command = spoken (every (hits text_of) (before (t ∷ example w.Assign ∷ []) (example w.Assign ∷ [])), a.0) in
+        let s = sinks (example w.Assign ∷ []) in
+        let other : reader.read_speaking n (t ∷ example w.Assign ∷ []) ≡ Ok (x, example w.Assign ∷ []) = rw a.1 refl in
+        not_sunk x (example w.Assign ∷ []) s.0 (sym other ∙ s.1);
+  }
+
 -- ---- single statements
 
 module _ (U : ℕ → Type 0) (n : ℕ) where
   value_step : Step U n expression read_expression first expression_more false
-  value_step = record { rule = base n _ _ _ _ false (λ j u. expression_grows j) (expression_lawful n) }
+  value_step = settled n _ _ expression_grows (expression_lawful n) (expression_dives n) expression_brief
 
   below_law : (n : ℕ) → Lawful n (below expression) (read_below read_expression) (set first) (set expression_more) false
   below_law zero = below_zero expression read_expression _ _ false (expression_lawful 0).some
   below_law (suc n) = below_suc n expression read_expression _ _ false (expression_lawful n)
 
-  below_step : Step U n (below expression) (read_below read_expression) first expression_more false
-  below_step = record { rule = base n _ _ _ _ false (λ j u. below_grows expression expression_grows j) (below_law n) }
+  -- a name alone needs no level
+  name_below : Brief (below expression)
+  unfolding expression
+  name_below =
+      let a = there_some (name_of (example w.Name)) (ap is_there name_there) in
+      record { by_ = example w.Name ∷ []; value = node.Name a.0; gives = λ k. lone_expression 0 (level 0) a.0 (example w.Name) k a.1 }
+
+  below_step : Inward U n (below expression) (read_below read_expression) first expression_more false
+  below_step = one_further n _ _ (λ j u. below_grows expression expression_grows j) (record { law = below_law n; dives = below_dives expression read_expression expression_dives n }) name_below
 
   the_name : Step U n (λ _. one name_of) (λ _. read_one name_of) (w.Name ∷ []) [] false
   the_name = carries U n name_of (w.Name ∷ []) (example w.Name) _ name_there (λ t h. name_is t ∙ h)
@@ -271,7 +306,7 @@ module _ (U : ℕ → Type 0) (n : ℕ) where
   raising_step : Step U n form.raising reader.read_raising (w.Raise ∷ []) [] false
   unfolding reader.read_raising
   raising_step =
-      then refl (takes U n w.Raise) (λ u. then refl the_name (λ class. then refl (opens_with U n w.LeftParen) (λ v. then refl below_step (λ e. then refl (takes U n w.RightParen) (λ x. makes U n (Some (statement.Raise class e)))))))
+      then refl (takes U n w.Raise) (λ u. then refl the_name (λ class. opens_then U n w.LeftParen refl (λ v. then refl below_step (λ e. then refl (takes U n w.RightParen) (λ x. makes U n (Some (statement.Raise class e)))))))
 
   passing_step : Step U n form.passing reader.read_passing (w.Pass ∷ []) [] false
   unfolding reader.read_passing
@@ -299,6 +334,8 @@ module _ (U : ℕ → Type 0) (n : ℕ) where
       up = λ j u x ts rest h. (h.0, h.1, h.2, expression_grows j x.1 ts rest h.3);
       law = λ x. noting_lawful n (hits text_of) expression read_expression _ _ false (expression_lawful n);
     };
+    dives = λ x. noting_dives ⊥ n (hits text_of) expression read_expression (expression_dives n);
+    brief = noting_ends 1 (hits text_of) expression [] expression_brief;
   }
 
   speaking_step : Step U n form.speaking reader.read_speaking first expression_more false
@@ -308,7 +345,8 @@ module _ (U : ℕ → Type 0) (n : ℕ) where
   other_step : Step U n form.other reader.read_other first simple_more false
   unfolding reader.read_other
   other_step =
-      wide refl refl (picks (hits name_of) assigns other_behind (λ x. other_apart n (assignment_step.rule.law x) (λ name. (assigned_step name).rule.law x) (speaking_step.rule.law x)) assignment_step speaking_step)
+      wide refl refl (picks (hits name_of) assigns other_behind (λ x. other_apart n (assignment_step.rule.law x) (λ name. (assigned_step name).rule.law x) (speaking_step.rule.law x)) assignment_step speaking_step
+      (λ x. other_firsts n (assignment_step.rule.law x) (λ name. (assigned_step name).rule.law x) (speaking_step.rule.law x)))
 
   simple_step : Step U n form.simple reader.read_simple simple_first simple_more false
   unfolding reader.read_simple
@@ -321,13 +359,13 @@ module _ (U : ℕ → Type 0) (n : ℕ) where
 
 -- ---- blocks
 
-module _ (U : ℕ → Type 0) (n : ℕ) (X : ℕ → Form Token (List Command)) (F : ℕ → Reader Token (List Command)) (body : Step U n X F (w.Newline ∷ simple_first) [] false) where
+module _ (U : ℕ → Type 0) (n : ℕ) (X : ℕ → Form Token (List Command)) (F : ℕ → Reader Token (List Command)) (body : Inward U n X F (w.Newline ∷ simple_first) [] false) where
   abbrev Of : {A : Type 0} → (ℕ → Form Token (List Command) → Form Token A) → (ℕ → Reader Token (List Command) → Reader Token A) → List Terminal → List Terminal → Bool → Type 0
   Of P f = Step U n (λ m. P m (X m)) (λ m. f m (F m))
 
   pub block_step : Of form.block reader.read_block (w.Colon ∷ []) [] false
   unfolding reader.read_block
-  block_step = then refl (opens_with U n w.Colon) (λ u. body)
+  block_step = opens_then U n w.Colon refl (λ u. body)
 
   branch_step : Of form.branch reader.read_branch first [] false
   unfolding reader.read_branch
@@ -381,10 +419,9 @@ block_first = w.Newline ∷ simple_first
 pass_there : (k : List Token) → form.simple 0 (Some statement.Pass) (example w.Pass ∷ example w.Newline ∷ k) (example w.Newline ∷ k)
 pass_there k = inr (inr (inl (tt, example w.Newline ∷ k, (example_is w.Pass, refl), (refl, refl))))
 
-behind_some : Completes behind_colon []
+behind_some : Brief behind_colon
 unfolding behind_colon
 behind_some = record {
-  depth = 1;
   by_ = example w.Pass ∷ example w.Newline ∷ [];
   value = statement.Pass ∷ [];
   gives = λ k. inr (Some statement.Pass, k, (Some statement.Pass, example w.Newline ∷ k, pass_there k, (tt, k, (example_is w.Newline, refl), (refl, refl))), (refl, refl));
@@ -394,14 +431,14 @@ abbrev OnBlock : ℕ → Type 0
 OnBlock j = Up j behind_colon
 
 abbrev Blocks : ℕ → Type 0
-Blocks n = Lawful n behind_colon read_behind_colon (set block_first) (set []) false
+Blocks n = Below n behind_colon read_behind_colon (set block_first) (set []) false
 
 commands_at : (n : ℕ) → Blocks n → Step OnBlock n (λ m. form.commands m (behind_colon m)) (λ m. reader.read_commands m (read_behind_colon m)) block_first [] false
-commands_at n l = commands_step OnBlock n behind_colon read_behind_colon (record { rule = base n _ _ _ _ false (λ j u. u) l })
+commands_at n l = commands_step OnBlock n behind_colon read_behind_colon (one_further n _ _ (λ j u. u) l behind_some)
 
 blocks_zero : Blocks 0
 unfolding behind_colon read_behind_colon
-blocks_zero = down_zero behind_colon read_behind_colon _ _ false (λ a ts rest h. h) (λ ts. refl) behind_some
+blocks_zero = nothing_below behind_colon read_behind_colon _ _ false (λ a ts rest h. h) (λ ts. refl) behind_some
 
 blocks_up : (j : ℕ) → OnBlock j
 unfolding behind_colon
@@ -411,15 +448,23 @@ blocks_up (suc j) = (commands_at 0 blocks_zero).rule.up j (blocks_up j)
 blocks_at : (n : ℕ) → Blocks n
 unfolding behind_colon read_behind_colon
 blocks_at zero = blocks_zero
-blocks_at (suc n) = down_suc n behind_colon read_behind_colon _ _ false ((commands_at n (blocks_at n)).rule.law blocks_up)
+blocks_at (suc n) = from_outside n behind_colon read_behind_colon blocks_up (commands_at n (blocks_at n))
 
 pub block_lawful : (n : ℕ) → Lawful n a_block read_a_block (set (w.Colon ∷ [])) (set []) false
 unfolding a_block
-block_lawful n = (block_step OnBlock n behind_colon read_behind_colon (record { rule = base n _ _ _ _ false (λ j u. u) (blocks_at n) })).rule.law blocks_up
+block_lawful n = (block_step OnBlock n behind_colon read_behind_colon (one_further n _ _ (λ j u. u) (blocks_at n) behind_some)).rule.law blocks_up
+
+pub block_dives : (n : ℕ) → Dives ⊥ n a_block read_a_block
+unfolding a_block
+block_dives n = (block_step OnBlock n behind_colon read_behind_colon (one_further n _ _ (λ j u. u) (blocks_at n) behind_some)).dives blocks_up
+
+pub block_brief : Brief a_block
+unfolding a_block
+block_brief = (block_step OnBlock 0 behind_colon read_behind_colon (one_further 0 _ _ (λ j u. u) blocks_zero behind_some)).brief
 
 pub block_grows : Grows a_block
 unfolding a_block
-block_grows n = (block_step OnBlock 0 behind_colon read_behind_colon (record { rule = base 0 _ _ _ _ false (λ j u. u) blocks_zero })).rule.up n (blocks_up n)
+block_grows n = (block_step OnBlock 0 behind_colon read_behind_colon (one_further 0 _ _ (λ j u. u) blocks_zero behind_some)).rule.up n (blocks_up n)
 
 -- ---- what is read again and again takes something
 

@@ -1,10 +1,11 @@
 -- Whole texts.
-use Rattle.std.proofs.Common.{◌≡◌, ℕ, ◌+◌, ◌≤◌, Bool, true, false, List, [], ◌∷◌, ◌++◌, Ok, Err, refl, sym, ap, subst, ◌∙◌, append_assoc, arith, ◌≢◌, length}
+use Rattle.std.proofs.Common.{◌≡◌, ℕ, suc, ◌+◌, ◌≤◌, Bool, true, false, List, [], ◌∷◌, ◌++◌, Ok, Err, refl, sym, ap, subst, ◌∙◌, append_assoc, arith, ◌≢◌, length, inl, inr}
 use Rattle.std.specs.Prelude.{◌==◌}
 use Rattle.std.proofs.lemmas.Bool.{eqb-true}
 use Rattle.std.proofs.lemmas.List.{append-nil}
-use Rattle.rd_parse.specs.Form.{Form, IsText, Viable, IsStuck, StopsAt}
-use Rattle.rd_parse.specs.Reader.{Stop, Refused, Outcome, Reader, head}
+use Rattle.rd_parse.specs.Form.{Form, IsText, Viable, IsStuck, StopsAt, TooDeep}
+use Rattle.rd_parse.specs.Reader.{Stop, Refused, Deep, Outcome, Reader, head}
+use Rattle.rd_parse.proofs.Dive.{Dive, Dives}
 use Rattle.rd_parse.proofs.Laws.{Grows, Lawful, raise, got, got_value, got_rest, stopped}
 
 module _ {T A : Type 0} (P : ℕ → Form T A) (f : ℕ → Reader T A) (first more : T → Bool) (null : Bool) (grows : Grows P) (laws : (n : ℕ) → Lawful n P f first more null) where
@@ -67,6 +68,25 @@ module _ {T A : Type 0} (P : ℕ → Form T A) (f : ℕ → Reader T A) (first m
   pub text_more : (n : ℕ) (ts : List T) (a : A) (after : List T) → after ≢ [] → f n ts ≡ Ok (a, after) → StopsAt P ts after
   text_more n ts a [] some e = absurd (some refl)
   text_more n ts a (t ∷ after) some e = text_longer n ts a t after e
+
+-- where a text opens one level too many
+pub text_deep : {T A : Type 0} (P : ℕ → Form T A) (f : ℕ → Reader T A) (first more : T → Bool) (null : Bool) → Grows P → ((n : ℕ) → Lawful n P f first more null) → (n : ℕ) → Dives ⊥ n P f
+    → (ts after : List T) → f n ts ≡ Err (Deep after) → TooDeep P n ts after
+text_deep {T} {A} P f first more null grows laws n dives ts after e = elim (dives ts after e) [ inl d ↦ deep d | inr b ↦ absurd b ]
+  where
+    deep : Dive n P f ts after → TooDeep P n ts after
+    deep d = record {
+      before = d.used;
+      token = d.token;
+      behind = d.after;
+      parts = d.parts;
+      left = d.left;
+      viable = (d.completes.by_, d.completes.value, subst (λ (c : List T). P (suc n) d.completes.value ((d.used ++ d.token ∷ []) ++ c) []) (append-nil d.completes.by_) (d.completes.gives []));
+      closed = λ v.
+          let s = d.sinks v.0 in
+          let h : P n v.1 (d.used ++ d.token ∷ v.0) [] = subst (λ (ts : List T). P n v.1 ts []) (append_assoc d.used (d.token ∷ []) v.0) v.2 in
+          text_not_read P f first _ null grows laws n (d.used ++ d.token ∷ v.0) (Deep s.0) v.1 s.1 h;
+    }
 
 pub none_left : {T : Type 0} (n : ℕ) (ts : List T) → n ≡ length ts → (n == 0) ≡ true → ts ≡ []
 none_left n [] l h = refl

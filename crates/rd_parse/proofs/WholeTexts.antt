@@ -2,16 +2,16 @@
 use Rattle.std.proofs.Common.{◌≡◌, ℕ, false, List, [], Ok, Err, sym, subst, ◌∙◌, ◌≢◌}
 use Rattle.rd_syntax.specs.declared.token.Token.{Token}
 use Rattle.rd_parse.specs.declared.tree.Module.{Module}
-use Rattle.rd_parse.specs.Form.{StopsAt}
-use Rattle.rd_parse.specs.Reader.{Stop, Refused}
+use Rattle.rd_parse.specs.Form.{StopsAt, TooDeep}
+use Rattle.rd_parse.specs.Reader.{Stop, Refused, Deep}
 use Rattle.rd_parse.specs.Literals.{Literal, literal_text, IsLiteral}
 use Rattle.rd_parse.specs.LiteralReading.{read_literal_text}
 use Rattle.rd_parse.specs.Modules.{module_form, IsModule}
 use Rattle.rd_parse.specs.ModuleReading.{read_module}
 use Rattle.rd_parse.proofs.Laws.{got_value, got_rest}
-use Rattle.rd_parse.proofs.Whole.{text_found, text_only, one_value, text_refused, text_more}
-use Rattle.rd_parse.proofs.Literals.{literal_text_lawful, literal_text_grows}
-use Rattle.rd_parse.proofs.Modules.{module_lawful, module_grows}
+use Rattle.rd_parse.proofs.Whole.{text_found, text_only, one_value, text_refused, text_more, text_deep}
+use Rattle.rd_parse.proofs.Literals.{literal_text_lawful, literal_text_grows, literal_text_dives}
+use Rattle.rd_parse.proofs.Modules.{module_lawful, module_grows, module_dives}
 
 abbrev levels : ℕ
 levels = 64
@@ -50,6 +50,10 @@ module_refused ts after e = text_refused module_form read_module _ _ false modul
 pub module_stops : (ts after : List Token) (m : Module) → after ≢ [] → read_module 64 ts ≡ Ok (m, after) → StopsAt module_form ts after
 module_stops ts after m some e = text_more module_form read_module _ _ false module_grows module_lawful levels ts m after some e
 
+-- where a module opens one level too many
+pub module_deep : (ts after : List Token) → read_module 64 ts ≡ Err (Deep after) → TooDeep module_form 64 ts after
+module_deep ts after e = text_deep module_form read_module _ _ false module_grows module_lawful levels (module_dives levels) ts after e
+
 -- ---- literals
 
 pub literal_found : (ts rest : List Token) (v : Literal) → read_literal_text 64 ts ≡ Ok (v, rest) → rest ≡ [] → IsLiteral ts v
@@ -64,3 +68,6 @@ literal_only ts v h = text_only literal_text read_literal_text _ _ false literal
 pub one_literal : (ts : List Token) (v u : Literal) → IsLiteral ts v → IsLiteral ts u → v ≡ u
 unfolding IsLiteral
 one_literal ts v u h k = one_value literal_text read_literal_text _ _ false literal_text_grows literal_text_lawful levels levels v u ts h k
+
+pub literal_deep : (ts after : List Token) → read_literal_text 64 ts ≡ Err (Deep after) → TooDeep literal_text 64 ts after
+literal_deep ts after e = text_deep literal_text read_literal_text _ _ false literal_text_grows literal_text_lawful levels (literal_text_dives levels) ts after e
