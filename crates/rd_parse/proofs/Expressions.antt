@@ -447,7 +447,7 @@ module _ (U : ℕ → Type 0) (n : ℕ) (X : ℕ → Level) (F : ℕ → Readers
 
   pub keyword_step : Within form.keyword reader.read_keyword (w.Name ∷ []) expression_more false
   unfolding reader.read_keyword
-  keyword_step = then refl (carries U n name_of (w.Name ∷ []) (example w.Name) _ name_there (λ t h. name_is t ∙ h)) (λ name. then refl (takes U n w.Assign) (λ u. then refl expression_step (λ e. makes U n (Keyword name e))))
+  keyword_step = then refl (carries U n name_of (w.Name ∷ []) refl (example w.Name) _ name_there (λ t h. name_is t ∙ h)) (λ name. then refl (takes U n w.Assign refl) (λ u. then refl expression_step (λ e. makes U n (Keyword name e))))
 
   pub positional_step : Within form.positional reader.read_positional first expression_more false
   unfolding reader.read_positional
@@ -473,18 +473,18 @@ module _ (U : ℕ → Type 0) (n : ℕ) (X : ℕ → Level) (F : ℕ → Readers
 
   pub call_step : (name : Name) → Of (λ m l. form.call m l name) (λ m l. reader.read_call m l name) (w.LeftParen ∷ []) [] false
   unfolding reader.read_call
-  call_step name = opens_then U n w.LeftParen refl (λ u. then refl arguments_step (λ all. then refl (takes U n w.RightParen) (λ v. makes U n (node.Call name all.0 all.1))))
+  call_step name = opens_then U n w.LeftParen refl (λ u. then refl arguments_step (λ all. then refl (takes U n w.RightParen refl) (λ v. makes U n (node.Call name all.0 all.1))))
 
   pub named_step : Of form.named reader.read_named (w.Name ∷ []) (w.LeftParen ∷ []) false
   unfolding reader.read_named
-  named_step = then refl (carries U n name_of (w.Name ∷ []) (example w.Name) _ name_there (λ t h. name_is t ∙ h)) (λ name. chooses (hits (is w.LeftParen)) (tests w.LeftParen) refl (call_step name) (makes U n (node.Name name)))
+  named_step = then refl (carries U n name_of (w.Name ∷ []) refl (example w.Name) _ name_there (λ t h. name_is t ∙ h)) (λ name. chooses (hits (is w.LeftParen)) (tests w.LeftParen) refl (call_step name) (makes U n (node.Name name)))
 
   pub number_step : Of form.number reader.read_number (w.Int ∷ []) [] false
   unfolding reader.read_number
-  number_step = then refl (carries U n number_of (w.Int ∷ []) (example w.Int) _ number_there number_within) (λ z. makes U n (node.Lit (value.Int z)))
+  number_step = then refl (carries U n number_of (w.Int ∷ []) refl (example w.Int) _ number_there number_within) (λ z. makes U n (node.Lit (value.Int z)))
 
   pub text_step : Step U n (λ _. one text_of) (λ _. read_one text_of) (w.Text ∷ []) [] false
-  text_step = carries U n text_of (w.Text ∷ []) (example w.Text) _ text_there (λ t h. text_is t ∙ h)
+  text_step = carries U n text_of (w.Text ∷ []) refl (example w.Text) _ text_there (λ t h. text_is t ∙ h)
 
   pub texts_step : Of form.texts reader.read_texts (w.Text ∷ []) (w.Text ∷ []) false
   unfolding reader.read_texts
@@ -492,21 +492,21 @@ module _ (U : ℕ → Type 0) (n : ℕ) (X : ℕ → Level) (F : ℕ → Readers
 
   pub constant_step : Of form.constant reader.read_constant constant_first [] false
   unfolding reader.read_constant
-  constant_step = then refl (carries U n constant_of constant_first (example w.Nothing) _ constant_there (λ t h. constant_is t ∙ h)) (λ v. makes U n (node.Lit v))
+  constant_step = then refl (carries U n constant_of constant_first refl (example w.Nothing) _ constant_there (λ t h. constant_is t ∙ h)) (λ v. makes U n (node.Lit v))
 
   pub group_step : Of form.group reader.read_group (w.LeftParen ∷ []) [] false
   unfolding reader.read_group
-  group_step = opens_then U n w.LeftParen refl (λ u. then refl expression_step (λ e. then refl (takes U n w.RightParen) (λ v. makes U n e)))
+  group_step = opens_then U n w.LeftParen refl (λ u. then refl expression_step (λ e. then refl (takes U n w.RightParen refl) (λ v. makes U n e)))
 
   pub condition_step : Within form.condition reader.read_condition (w.If ∷ []) (w.If ∷ disjunction_more) true
   unfolding reader.read_condition
-  condition_step = wide refl refl (chooses (hits (is w.If)) (tests w.If) refl (then refl (takes U n w.If) (λ u. then refl disjunction_inside (λ e. makes U n (e ∷ [])))) (makes U n []))
+  condition_step = wide refl refl (chooses (hits (is w.If)) (tests w.If) refl (then refl (takes U n w.If refl) (λ u. then refl disjunction_inside (λ e. makes U n (e ∷ [])))) (makes U n []))
 
   pub comprehension_step : (e : Tree) → Within (λ m l. form.comprehension m l e) (λ m l. reader.read_comprehension m l e) (w.For ∷ []) expression_more false
   unfolding reader.read_comprehension
   comprehension_step e =
-      wide refl refl (then refl (takes U n w.For) (λ u. then refl (carries U n name_of (w.Name ∷ []) (example w.Name) _ name_there (λ t h. name_is t ∙ h))
-      (λ name. then refl (takes U n w.In) (λ v. then refl disjunction_inside (λ iterable. then refl condition_step (λ c. makes U n (node.Comp e name iterable c)))))))
+      wide refl refl (then refl (takes U n w.For refl) (λ u. then refl (carries U n name_of (w.Name ∷ []) refl (example w.Name) _ name_there (λ t h. name_is t ∙ h))
+      (λ name. then refl (takes U n w.In refl) (λ v. then refl disjunction_inside (λ iterable. then refl condition_step (λ c. makes U n (node.Comp e name iterable c)))))))
 
   pub list_behind_step : (e : Tree) → Within (λ m l. form.list_behind m l e) (λ m l. reader.read_list_behind m l e) (w.Comma ∷ []) inside_more true
   unfolding reader.read_list_behind
@@ -519,11 +519,11 @@ module _ (U : ℕ → Type 0) (n : ℕ) (X : ℕ → Level) (F : ℕ → Readers
 
   pub square_step : Of form.square reader.read_square (w.LeftSquare ∷ []) [] false
   unfolding reader.read_square
-  square_step = opens_then U n w.LeftSquare refl (λ u. then refl items_step (λ e. then refl (takes U n w.RightSquare) (λ v. makes U n e)))
+  square_step = opens_then U n w.LeftSquare refl (λ u. then refl items_step (λ e. then refl (takes U n w.RightSquare refl) (λ v. makes U n e)))
 
   pub pair_step : Within form.pair reader.read_pair first expression_more false
   unfolding reader.read_pair
-  pair_step = then refl expression_step (λ key. then refl (takes U n w.Colon) (λ u. then refl expression_step (λ e. makes U n (key, e))))
+  pair_step = then refl expression_step (λ key. then refl (takes U n w.Colon refl) (λ u. then refl expression_step (λ e. makes U n (key, e))))
 
   pub pairs_step : Within form.pairs reader.read_pairs first inside_more true
   unfolding reader.read_pairs
@@ -531,7 +531,7 @@ module _ (U : ℕ → Type 0) (n : ℕ) (X : ℕ → Level) (F : ℕ → Readers
 
   pub curly_step : Of form.curly reader.read_curly (w.LeftCurly ∷ []) [] false
   unfolding reader.read_curly
-  curly_step = opens_then U n w.LeftCurly refl (λ u. then refl pairs_step (λ all. then refl (takes U n w.RightCurly) (λ v. makes U n (node.Dict all))))
+  curly_step = opens_then U n w.LeftCurly refl (λ u. then refl pairs_step (λ all. then refl (takes U n w.RightCurly refl) (λ v. makes U n (node.Dict all))))
 
   pub atom_step : Of form.atom reader.read_atom atom_first atom_more false
   unfolding reader.read_atom
@@ -541,12 +541,12 @@ module _ (U : ℕ → Type 0) (n : ℕ) (X : ℕ → Level) (F : ℕ → Readers
 
   pub index_step : (e : Tree) → Of (λ m l. form.index m l e) (λ m l. reader.read_index m l e) (w.LeftSquare ∷ []) [] false
   unfolding reader.read_index
-  index_step e = opens_then U n w.LeftSquare refl (λ u. then refl expression_step (λ i. then refl (takes U n w.RightSquare) (λ v. makes U n (node.Index e i))))
+  index_step e = opens_then U n w.LeftSquare refl (λ u. then refl expression_step (λ i. then refl (takes U n w.RightSquare refl) (λ v. makes U n (node.Index e i))))
 
   pub method_step : (e : Tree) → Of (λ m l. form.method m l e) (λ m l. reader.read_method m l e) (w.Name ∷ []) [] false
   unfolding reader.read_method
   method_step e =
-      then refl (carries U n word_of (w.Name ∷ []) (example w.Name) _ word_there word_within) (λ name. opens_then U n w.LeftParen refl (λ u. then refl expressions_step (λ all. then refl (takes U n w.RightParen) (λ v. makes U n (node.Method e name all)))))
+      then refl (carries U n word_of (w.Name ∷ []) refl (example w.Name) _ word_there word_within) (λ name. opens_then U n w.LeftParen refl (λ u. then refl expressions_step (λ all. then refl (takes U n w.RightParen refl) (λ v. makes U n (node.Method e name all)))))
 
   pub path_step : (e : Tree) → Of (λ m l. form.path m l e) (λ m l. reader.read_path m l e) (w.Name ∷ []) [] false
   unfolding reader.read_path
@@ -555,7 +555,7 @@ module _ (U : ℕ → Type 0) (n : ℕ) (X : ℕ → Level) (F : ℕ → Readers
   pub dotted_step : (e : Tree) → Of (λ m l. form.dotted m l e) (λ m l. reader.read_dotted m l e) (w.Dot ∷ []) (w.LeftParen ∷ []) false
   unfolding reader.read_dotted
   dotted_step e =
-      wide refl refl (then refl (takes U n w.Dot) (λ u. picks (hits form.path_word) no_call (w.LeftParen ∷ []) (λ x. dotted_apart n X F e ((method_step e).rule.law x)) (path_step e) (method_step e) (λ x. dotted_firsts n X F e ((method_step e).rule.law x))))
+      wide refl refl (then refl (takes U n w.Dot refl) (λ u. picks (hits form.path_word) no_call (w.LeftParen ∷ []) (λ x. dotted_apart n X F e ((method_step e).rule.law x)) (path_step e) (method_step e) (λ x. dotted_firsts n X F e ((method_step e).rule.law x))))
 
   pub part_step : (e : Tree) → Of (λ m l. form.part m l e) (λ m l. reader.read_part m l e) part_first (w.LeftParen ∷ []) false
   unfolding reader.read_part
@@ -579,7 +579,7 @@ module _ (U : ℕ → Type 0) (n : ℕ) (X : ℕ → Level) (F : ℕ → Readers
 
   pub times_step : Of form.times reader.read_times times_first factor_more false
   unfolding reader.read_times
-  times_step = then refl (carries U n times_of times_first (example w.Star) _ times_there (λ t h. times_is t ∙ h)) (λ operator. then refl factor_step (λ e. makes U n (operator, e)))
+  times_step = then refl (carries U n times_of times_first refl (example w.Star) _ times_there (λ t h. times_is t ∙ h)) (λ operator. then refl factor_step (λ e. makes U n (operator, e)))
 
   pub term_step : Of form.term reader.read_term factor_first term_more false
   unfolding reader.read_term
@@ -587,7 +587,7 @@ module _ (U : ℕ → Type 0) (n : ℕ) (X : ℕ → Level) (F : ℕ → Readers
 
   pub plus_step : Of form.plus reader.read_plus plus_first term_more false
   unfolding reader.read_plus
-  plus_step = then refl (carries U n plus_of plus_first (example w.Plus) _ plus_there (λ t h. plus_is t ∙ h)) (λ operator. then refl term_step (λ e. makes U n (operator, e)))
+  plus_step = then refl (carries U n plus_of plus_first refl (example w.Plus) _ plus_there (λ t h. plus_is t ∙ h)) (λ operator. then refl term_step (λ e. makes U n (operator, e)))
 
   pub sum_step : Of form.sum reader.read_sum factor_first sum_more false
   unfolding reader.read_sum
@@ -595,11 +595,11 @@ module _ (U : ℕ → Type 0) (n : ℕ) (X : ℕ → Level) (F : ℕ → Readers
 
   pub not_in_step : Of form.not_in reader.read_not_in (w.Not ∷ []) [] false
   unfolding reader.read_not_in
-  not_in_step = then refl (takes U n w.Not) (λ u. then refl (takes U n w.In) (λ v. makes U n compared.NotIn))
+  not_in_step = then refl (takes U n w.Not refl) (λ u. then refl (takes U n w.In refl) (λ v. makes U n compared.NotIn))
 
   pub comparing_step : Of form.comparing reader.read_comparing comparison_first [] false
   unfolding reader.read_comparing
-  comparing_step = chooses (hits comparison_of) compare_is refl (carries U n comparison_of compare_first (example w.Equal) _ compare_there (λ t h. compare_is t ∙ h)) not_in_step
+  comparing_step = chooses (hits comparison_of) compare_is refl (carries U n comparison_of compare_first refl (example w.Equal) _ compare_there (λ t h. compare_is t ∙ h)) not_in_step
 
   pub comparison_step : Of form.comparison reader.read_comparison factor_first comparison_more false
   unfolding reader.read_comparison
@@ -616,7 +616,7 @@ module _ (U : ℕ → Type 0) (n : ℕ) (X : ℕ → Level) (F : ℕ → Readers
 
   pub and_step : Of form.and_operand reader.read_and (w.And ∷ []) comparison_more false
   unfolding reader.read_and
-  and_step = then refl (takes U n w.And) (λ u. inversion_step)
+  and_step = then refl (takes U n w.And refl) (λ u. inversion_step)
 
   pub conjunction_step : Of form.conjunction reader.read_conjunction first conjunction_more false
   unfolding reader.read_conjunction
@@ -624,7 +624,7 @@ module _ (U : ℕ → Type 0) (n : ℕ) (X : ℕ → Level) (F : ℕ → Readers
 
   pub or_step : Of form.or_operand reader.read_or (w.Or ∷ []) conjunction_more false
   unfolding reader.read_or
-  or_step = then refl (takes U n w.Or) (λ u. conjunction_step)
+  or_step = then refl (takes U n w.Or refl) (λ u. conjunction_step)
 
   pub disjunction_step : Of form.disjunction reader.read_disjunction first disjunction_more false
   unfolding reader.read_disjunction
@@ -633,5 +633,5 @@ module _ (U : ℕ → Type 0) (n : ℕ) (X : ℕ → Level) (F : ℕ → Readers
   pub conditional_step : Of form.conditional reader.read_conditional first expression_more false
   unfolding reader.read_conditional
   conditional_step =
-      wide refl refl (then refl disjunction_step (λ e. chooses (hits (is w.If)) (tests w.If) refl (then refl (takes U n w.If) (λ u. then refl disjunction_step
+      wide refl refl (then refl disjunction_step (λ e. chooses (hits (is w.If)) (tests w.If) refl (then refl (takes U n w.If refl) (λ u. then refl disjunction_step
       (λ test. opens_then U n w.Else refl (λ v. then refl expression_step (λ other. makes U n (node.Cond test e other)))))) (makes U n e)))

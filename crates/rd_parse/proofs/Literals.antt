@@ -30,7 +30,7 @@ use Rattle.rd_parse.proofs.Steps.{Step, Inward, settled, one_further, from_outsi
 use Rattle.rd_parse.proofs.Expressions.{text_is, number_within}
 use Rattle.rd_parse.proofs.Numbers.{spelling, number_small}
 use Rattle.rd_parse.proofs.Such.{such_lawful}
-use Rattle.rd_parse.proofs.Dive.{Below, Brief, brief_some, Dives, nothing_below, below_dives, such_dives, recast_dives}
+use Rattle.rd_parse.proofs.Dive.{Plain, Below, Brief, brief_some, Dives, nothing_below, below_dives, such_dives, recast_dives}
 
 -- ---- sets of tokens
 
@@ -96,10 +96,10 @@ number_there = refl
 
 module _ (U : ℕ → Type 0) (n : ℕ) where
   text_token : Step U n (λ _. one text_of) (λ _. read_one text_of) (w.Text ∷ []) [] false
-  text_token = carries U n text_of (w.Text ∷ []) (example w.Text) _ text_there (λ t h. text_is t ∙ h)
+  text_token = carries U n text_of (w.Text ∷ []) refl (example w.Text) _ text_there (λ t h. text_is t ∙ h)
 
   number_token : Step U n (λ _. one number_of) (λ _. read_one number_of) (w.Int ∷ []) [] false
-  number_token = carries U n number_of (w.Int ∷ []) (example w.Int) _ number_there number_within
+  number_token = carries U n number_of (w.Int ∷ []) refl (example w.Int) _ number_there number_within
 
   pub texts_step : Step U n (λ _. form.texts) (λ _. reader.read_texts) (w.Text ∷ []) (w.Text ∷ []) false
   unfolding reader.read_texts
@@ -121,7 +121,7 @@ module _ (U : ℕ → Type 0) (n : ℕ) where
   unfolding reader.read_literal
   literal_step =
       wide refl refl (chooses (hits (is w.Minus)) (tests w.Minus) refl negative_step (chooses (hits (is w.Int)) (tests w.Int) refl number_step
-      (chooses (hits text_of) text_is refl text_step (carries U n constant_of constant_first (example w.Nothing) _ constant_there constant_within))))
+      (chooses (hits text_of) text_is refl text_step (carries U n constant_of constant_first refl (example w.Nothing) _ constant_there constant_within))))
 
 -- ---- texts that are no keys
 
@@ -275,14 +275,14 @@ module _ (U : ℕ → Type 0) (n : ℕ) (keys : List Literal) where
   unfolding reader.read_number_key
   number_key_step h =
       let s = number_spelled keys h in
-      then refl (carries U n (number_key_of keys) (w.Int ∷ []) s.0 s.1 s.2 (λ t h. number_within t (only_hits (new_number keys) (number_of t) h))) (λ z. makes U n (value.Int z))
+      then refl (carries U n (number_key_of keys) (w.Int ∷ []) refl s.0 s.1 s.2 (λ t h. number_within t (only_hits (new_number keys) (number_of t) h))) (λ z. makes U n (value.Int z))
 
   negative_key_step : has_negative keys ≡ true → Step U n (form.negative_key keys) (reader.read_negative_key keys) (w.Minus ∷ []) [] false
   unfolding reader.read_negative_key
   negative_key_step h =
       let s = negative_spelled keys h in
       opens_then U n w.Minus refl
-      (λ u. then refl (carries U n (negative_key_of keys) (w.Int ∷ []) s.0 s.1 s.2 (λ t h. number_within t (only_hits (λ z. new_number keys (neg_ℤ z)) (number_of t) h))) (λ z. makes U n (value.Int (neg_ℤ z))))
+      (λ u. then refl (carries U n (negative_key_of keys) (w.Int ∷ []) refl s.0 s.1 s.2 (λ t h. number_within t (only_hits (λ z. new_number keys (neg_ℤ z)) (number_of t) h))) (λ z. makes U n (value.Int (neg_ℤ z))))
 
   new_step : Step U n (λ _. such (new_text keys) form.texts) (λ _. read_such (new_text keys) reader.read_texts) (w.Text ∷ []) (w.Text ∷ []) false
   new_step = record {
@@ -292,7 +292,8 @@ module _ (U : ℕ → Type 0) (n : ℕ) (keys : List Literal) where
           let l = (texts_step U n).rule.law x in
           such_lawful n (new_text keys) (λ _. form.texts) (λ _. reader.read_texts) _ _ false l (texts_longer keys) (texts_complete keys [] l.some) (texts_complete keys);
     };
-    dives = λ x. such_dives ⊥ n (new_text keys) (λ _. form.texts) (λ _. reader.read_texts) (λ used c. let d = texts_complete keys used (record { depth = 1; by_ = c.by_; value = c.value; gives = c.gives }) in record { by_ = d.by_; value = d.value; gives = d.gives }) ((texts_step U n).dives x);
+    dives = λ x. such_dives ⊥ n (new_text keys) (λ _. form.texts) (λ _. reader.read_texts) (λ m used c. let d = texts_complete keys used (record { depth = 1; by_ = c.by_; value = c.value; gives = c.gives }) in record { by_ = d.by_; value = d.value; gives = d.gives }) ((texts_step U n).dives x);
+    plain = λ a ts rest h. (texts_step U n).plain a ts rest h.0;
     brief = let d = texts_complete keys [] (brief_some (λ _. form.texts) (texts_step U n).brief) in record { by_ = d.by_; value = d.value; gives = d.gives };
   }
 
@@ -316,6 +317,7 @@ module _ (U : ℕ → Type 0) (n : ℕ) (keys : List Literal) where
   recast_key b c P there back s = record {
     rule = record { up = λ j u. key_up j; law = λ x. recast n P (form.key keys) _ _ _ _ false (record { there = there; back = back; reads = λ m ts. refl }) (s.rule.law x) };
     dives = λ x. recast_dives ⊥ n P (form.key keys) _ _ (record { there = there; back = back; reads = λ m ts. refl }) (s.dives x);
+    plain = λ a ts rest h. s.plain a ts rest (back 0 a ts rest h);
     brief = record { by_ = s.brief.by_; value = s.brief.value; gives = λ k. there 1 s.brief.value _ k (s.brief.gives k) };
   }
 
@@ -367,12 +369,15 @@ module _ (U : ℕ → Type 0) (n : ℕ) (X : ℕ → Form Token Literal) (F : �
 
   square_step : Of form.square reader.read_square (w.LeftSquare ∷ []) [] false
   unfolding reader.read_square
-  square_step = opens_then U n w.LeftSquare refl (λ u. then refl items_step (λ all. then refl (takes U n w.RightSquare) (λ v. makes U n (value.List all))))
+  square_step = opens_then U n w.LeftSquare refl (λ u. then refl items_step (λ all. then refl (takes U n w.RightSquare refl) (λ v. makes U n (value.List all))))
 
   below_key_law : (keys : List Literal) (n : ℕ) → ((n : ℕ) → Lawful n (form.key keys) (reader.read_key keys) (set key_first) (set (w.Text ∷ [])) false)
       → Lawful n (below (form.key keys)) (read_below (reader.read_key keys)) (set key_first) (set (w.Text ∷ [])) false
   below_key_law keys zero l = below_zero (form.key keys) (reader.read_key keys) _ _ false (l 0).some
   below_key_law keys (suc n) l = below_suc n (form.key keys) (reader.read_key keys) _ _ false (l n)
+
+  key_below : (keys : List Literal) → Brief (below (form.key keys))
+  key_below keys = let t = (text_key_step U n keys).brief in record { by_ = t.by_; value = t.value; gives = λ k. inr (inr (t.gives k)) }
 
   below_key_step : (keys : List Literal) → Inward U n (below (form.key keys)) (read_below (reader.read_key keys)) key_first (w.Text ∷ []) false
   below_key_step keys = record {
@@ -380,13 +385,14 @@ module _ (U : ℕ → Type 0) (n : ℕ) (X : ℕ → Form Token Literal) (F : �
       up = λ j u. below_grows (form.key keys) (λ m. key_up U n keys m) j;
       law = λ x. below_key_law keys n (λ m. (key_step U m keys).rule.law x);
     };
-    dives = λ x. below_dives (form.key keys) (reader.read_key keys) (λ m. (key_step U m keys).dives x) n;
-    brief = let t = (text_key_step U n keys).brief in record { by_ = t.by_; value = t.value; gives = λ k. inr (inr (t.gives k)) };
+    dives = λ x. below_dives (form.key keys) (reader.read_key keys) (key_below keys) (λ m. (key_step U m keys).dives x) n;
+    brief = key_below keys;
+    plain = λ a ts rest h. absurd h;
   }
 
   pair_step : (keys : List Literal) → Within (λ m l. form.pair m l keys) (λ m l. reader.read_pair m l keys) key_first (w.Text ∷ []) false
   unfolding reader.read_pair
-  pair_step keys = then refl (below_key_step keys) (λ k. then refl (takes U n w.Colon) (λ u. then refl inside (λ v. makes U n (k, v))))
+  pair_step keys = then refl (below_key_step keys) (λ k. then refl (takes U n w.Colon refl) (λ u. then refl inside (λ v. makes U n (k, v))))
 
   more_pairs_step : (keys : List Literal) → Within (λ m l. form.more_pairs m l keys) (λ m l. reader.read_more_pairs m l keys) (w.Comma ∷ []) (w.Comma ∷ w.Text ∷ key_first) true
   more_pairs_step keys = wide refl refl (commas_by (λ s. among begins_key) with_key key_first (λ s. key_is) (λ s. refl) refl pair_step keys)
@@ -397,7 +403,7 @@ module _ (U : ℕ → Type 0) (n : ℕ) (X : ℕ → Form Token Literal) (F : �
 
   curly_step : Of form.curly reader.read_curly (w.LeftCurly ∷ []) [] false
   unfolding reader.read_curly
-  curly_step = opens_then U n w.LeftCurly refl (λ u. then refl pairs_step (λ all. then refl (takes U n w.RightCurly) (λ v. makes U n (value.Dict all))))
+  curly_step = opens_then U n w.LeftCurly refl (λ u. then refl pairs_step (λ all. then refl (takes U n w.RightCurly refl) (λ v. makes U n (value.Dict all))))
 
   pub deep_step : Of form.deep reader.read_deep literal_first (w.Text ∷ []) false
   unfolding reader.read_deep
@@ -415,8 +421,12 @@ On j = Up j inner_literal
 abbrev Inner : ℕ → Type 0
 Inner n = Below n inner_literal read_inner_literal (set literal_first) (set (w.Text ∷ [])) false
 
+pub no_literal : (a : Literal) (ts rest : List Token) → inner_literal 0 a ts rest → ⊥
+unfolding inner_literal
+no_literal a ts rest h = h
+
 deep_at : (n : ℕ) → Inner n → Step On n (λ m. form.deep m (inner_literal m)) (λ m. reader.read_deep m (read_inner_literal m)) literal_first (w.Text ∷ []) false
-deep_at n l = deep_step On n inner_literal read_inner_literal (one_further n _ _ (λ j u. u) l inner_some)
+deep_at n l = deep_step On n inner_literal read_inner_literal (one_further n _ _ (λ j u. u) l inner_some no_literal)
 
 inner_zero : Inner 0
 unfolding inner_literal read_inner_literal
@@ -430,7 +440,7 @@ inner_up (suc j) = (deep_at 0 inner_zero).rule.up j (inner_up j)
 pub inner_literal_laws : (n : ℕ) → Inner n
 unfolding inner_literal read_inner_literal
 inner_literal_laws zero = inner_zero
-inner_literal_laws (suc n) = from_outside n inner_literal read_inner_literal inner_up (deep_at n (inner_literal_laws n))
+inner_literal_laws (suc n) = from_outside n inner_literal read_inner_literal inner_up inner_some (deep_at n (inner_literal_laws n))
 
 pub inner_literal_grows : Grows inner_literal
 inner_literal_grows = inner_up
@@ -447,6 +457,10 @@ deep_brief : Brief deep_literal
 unfolding deep_literal
 deep_brief = (deep_at 0 inner_zero).brief
 
+deep_plain : Plain deep_literal
+unfolding deep_literal
+deep_plain = (deep_at 0 inner_zero).plain
+
 pub deep_grows : Grows deep_literal
 unfolding deep_literal
 deep_grows n = (deep_at 0 inner_zero).rule.up n (inner_up n)
@@ -456,8 +470,8 @@ deep_grows n = (deep_at 0 inner_zero).rule.up n (inner_up n)
 text_of_literal : (n : ℕ) → Step (λ j. Unit {0}) n form.literal_text reader.read_literal_text literal_first [] false
 unfolding reader.read_literal_text
 text_of_literal n =
-    let value : Step (λ j. Unit {0}) n deep_literal read_deep_literal literal_first (w.Text ∷ []) false = settled n _ _ deep_grows (deep_lawful n) (deep_dives n) deep_brief in
-    wide refl refl (then refl value (λ v. then refl (takes (λ j. Unit {0}) n w.Newline) (λ u. then refl (takes (λ j. Unit {0}) n w.End) (λ x. makes (λ j. Unit {0}) n v))))
+    let value : Step (λ j. Unit {0}) n deep_literal read_deep_literal literal_first (w.Text ∷ []) false = settled n _ _ deep_grows (deep_lawful n) (deep_dives n) deep_brief deep_plain in
+    wide refl refl (then refl value (λ v. then refl (takes (λ j. Unit {0}) n w.Newline refl) (λ u. then refl (takes (λ j. Unit {0}) n w.End refl) (λ x. makes (λ j. Unit {0}) n v))))
 
 pub literal_text_lawful : (n : ℕ) → Lawful n form.literal_text reader.read_literal_text (set literal_first) (set []) false
 literal_text_lawful n = (text_of_literal n).rule.law (λ j. tt)

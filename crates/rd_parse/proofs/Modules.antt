@@ -25,8 +25,8 @@ use Rattle.rd_parse.proofs.Sets.{holds_one, holds_same, set}
 use Rattle.rd_parse.proofs.Samples.{sample, example}
 use Rattle.rd_parse.proofs.Steps.{Step, Inward, settled, one_further, opens_then, wide, carries, takes, makes, then, chooses, each, tests, commas, commas_by}
 use Rattle.rd_parse.proofs.Expressions.{name_is, text_is, name_there}
-use Rattle.rd_parse.proofs.Literals.{literal_first, plain_first, literal_step, constant_there, texts_step, inner_literal_laws, inner_some, inner_literal_grows}
-use Rattle.rd_parse.proofs.Statements.{part_first, annotation_more, annotation_lawful, annotation_dives, annotation_brief, annotation_grows, annotated_step, block_lawful, block_dives, block_brief, block_grows}
+use Rattle.rd_parse.proofs.Literals.{literal_first, plain_first, literal_step, constant_there, texts_step, inner_literal_laws, inner_some, no_literal, inner_literal_grows}
+use Rattle.rd_parse.proofs.Statements.{part_first, annotation_more, annotation_lawful, annotation_dives, annotation_brief, annotation_plain, annotation_grows, annotated_step, block_lawful, block_dives, block_brief, block_plain, block_grows}
 
 -- ---- single tokens
 
@@ -120,6 +120,9 @@ none_annotated : (k : List Token) → annotated 0 tt k k
 unfolding annotated
 none_annotated k = inr (refl, refl)
 
+not_annotated : Brief (below annotated)
+not_annotated = record { by_ = []; value = tt; gives = none_annotated }
+
 -- the forms hold by themselves
 abbrev Free : ℕ → Type 0
 Free j = Unit {0}
@@ -132,16 +135,16 @@ module _ (n : ℕ) where
   Within P f = Inward Free n P f
 
   a_name : Of (λ _. one name_of) (λ _. read_one name_of) (w.Name ∷ []) [] false
-  a_name = carries Free n name_of (w.Name ∷ []) (example w.Name) _ name_there (λ t h. name_is t ∙ h)
+  a_name = carries Free n name_of (w.Name ∷ []) refl (example w.Name) _ name_there (λ t h. name_is t ∙ h)
 
   -- ---- options
 
   value_step : Within inner_literal read_inner_literal literal_first (w.Text ∷ []) false
-  value_step = one_further n _ _ (λ j u. inner_literal_grows j) (inner_literal_laws n) inner_some
+  value_step = one_further n _ _ (λ j u. inner_literal_grows j) (inner_literal_laws n) inner_some no_literal
 
   option_step : Within form.option reader.read_option (w.Name ∷ []) (w.Text ∷ []) false
   unfolding reader.read_option
-  option_step = then refl a_name (λ name. then refl (takes Free n w.Assign) (λ u. then refl value_step (λ v. makes Free n (record { name = name; value = v }))))
+  option_step = then refl a_name (λ name. then refl (takes Free n w.Assign refl) (λ u. then refl value_step (λ v. makes Free n (record { name = name; value = v }))))
 
   options_step : Within form.options reader.read_options (w.Name ∷ []) (w.Name ∷ w.Comma ∷ w.Text ∷ []) true
   unfolding reader.read_options
@@ -150,13 +153,13 @@ module _ (n : ℕ) where
   given_options_step : Of form.given_options reader.read_given_options (w.LeftParen ∷ []) (w.LeftParen ∷ []) true
   unfolding reader.read_given_options
   given_options_step =
-      wide refl refl (chooses (hits (is w.LeftParen)) (tests w.LeftParen) refl (opens_then Free n w.LeftParen refl (λ u. then refl options_step (λ all. then refl (takes Free n w.RightParen) (λ v. makes Free n all)))) (makes Free n []))
+      wide refl refl (chooses (hits (is w.LeftParen)) (tests w.LeftParen) refl (opens_then Free n w.LeftParen refl (λ u. then refl options_step (λ all. then refl (takes Free n w.RightParen refl) (λ v. makes Free n all)))) (makes Free n []))
 
   decorator_step : Of form.decorator reader.read_decorator (w.At ∷ []) [] false
   unfolding reader.read_decorator
   decorator_step =
-      then refl (takes Free n w.At) (λ u. then refl (carries Free n task_word (w.Name ∷ []) (spelled (codes "task")) tt task_there task_within)
-      (λ v. then refl given_options_step (λ all. then refl (takes Free n w.Newline) (λ x. makes Free n (Some all)))))
+      then refl (takes Free n w.At refl) (λ u. then refl (carries Free n task_word (w.Name ∷ []) refl (spelled (codes "task")) tt task_there task_within)
+      (λ v. then refl given_options_step (λ all. then refl (takes Free n w.Newline refl) (λ x. makes Free n (Some all)))))
 
   decorated_step : Of form.decorated reader.read_decorated (w.At ∷ []) (w.At ∷ []) true
   unfolding reader.read_decorated
@@ -165,14 +168,14 @@ module _ (n : ℕ) where
   -- ---- parameters
 
   plain_step : Within (below literal) (read_below read_literal) plain_first (w.Text ∷ []) false
-  plain_step = one_further n _ _ (λ j u. below_grows literal literal_grows j) (record { law = below_literal n; dives = below_dives literal read_literal literal_dives n }) nothing_alone
+  plain_step = one_further n _ _ (λ j u. below_grows literal literal_grows j) (record { law = below_literal n; dives = below_dives literal read_literal nothing_alone literal_dives n }) nothing_alone (λ a ts rest h. h)
 
   annotation_step : Within (below annotated) (read_below read_annotated) (w.Colon ∷ []) (w.Colon ∷ annotation_more) true
-  annotation_step = one_further n _ _ (λ j u. below_grows annotated annotated_grows j) (record { law = below_annotated n; dives = below_dives annotated read_annotated annotated_dives n }) (record { by_ = []; value = tt; gives = λ k. none_annotated k })
+  annotation_step = one_further n _ _ (λ j u. below_grows annotated annotated_grows j) (record { law = below_annotated n; dives = below_dives annotated read_annotated not_annotated annotated_dives n }) not_annotated (λ a ts rest h. h)
 
   with_default_step : (name : Name) → Within (λ m. form.with_default m name) (λ m. reader.read_with_default m name) (w.Assign ∷ []) (w.Text ∷ []) false
   unfolding reader.read_with_default
-  with_default_step name = then refl (takes Free n w.Assign) (λ u. then refl plain_step (λ v. makes Free n (record { name = name; default = Some v })))
+  with_default_step name = then refl (takes Free n w.Assign refl) (λ u. then refl plain_step (λ v. makes Free n (record { name = name; default = Some v })))
 
   -- Where a default must stand, the empty text is none.
   abbrev optional : Bool → Bool
@@ -204,20 +207,20 @@ module _ (n : ℕ) where
   -- ---- functions
 
   kind_step : Of annotation read_annotation part_first annotation_more false
-  kind_step = settled n _ _ annotation_grows (annotation_lawful n) (annotation_dives n) annotation_brief
+  kind_step = settled n _ _ annotation_grows (annotation_lawful n) (annotation_dives n) annotation_brief annotation_plain
 
   returned_step : Of form.returned reader.read_returned (w.Arrow ∷ []) (w.Arrow ∷ annotation_more) true
   unfolding reader.read_returned
-  returned_step = wide refl refl (chooses (hits (is w.Arrow)) (tests w.Arrow) refl (then refl (takes Free n w.Arrow) (λ u. kind_step)) (makes Free n tt))
+  returned_step = wide refl refl (chooses (hits (is w.Arrow)) (tests w.Arrow) refl (then refl (takes Free n w.Arrow refl) (λ u. kind_step)) (makes Free n tt))
 
   head_step : Of form.head reader.read_head (w.Def ∷ []) (w.Arrow ∷ annotation_more) false
   unfolding reader.read_head
   head_step =
-      wide refl refl (then refl (carries Free n (line_of w.Def) (w.Def ∷ []) (example w.Def) 0 def_there (line_within w.Def))
-      (λ line. then refl a_name (λ name. opens_then Free n w.LeftParen refl (λ u. then refl parameters_step (λ all. then refl (takes Free n w.RightParen) (λ v. then refl returned_step (λ x. makes Free n (at_line name line, all))))))))
+      wide refl refl (then refl (carries Free n (line_of w.Def) (w.Def ∷ []) refl (example w.Def) 0 def_there (line_within w.Def))
+      (λ line. then refl a_name (λ name. opens_then Free n w.LeftParen refl (λ u. then refl parameters_step (λ all. then refl (takes Free n w.RightParen refl) (λ v. then refl returned_step (λ x. makes Free n (at_line name line, all))))))))
 
   block_step : Of a_block read_a_block (w.Colon ∷ []) [] false
-  block_step = settled n _ _ block_grows (block_lawful n) (block_dives n) block_brief
+  block_step = settled n _ _ block_grows (block_lawful n) (block_dives n) block_brief block_plain
 
   function_step : Of form.function reader.read_function (w.At ∷ w.Def ∷ []) [] false
   unfolding reader.read_function
@@ -227,7 +230,7 @@ module _ (n : ℕ) where
 
   pub part_of_path_step : Of (λ _. form.part_of_path) (λ _. reader.read_part_of_path) (w.Dot ∷ []) [] false
   unfolding reader.read_part_of_path
-  part_of_path_step = then refl (takes Free n w.Dot) (λ u. takes Free n w.Name)
+  part_of_path_step = then refl (takes Free n w.Dot refl) (λ u. takes Free n w.Name refl)
 
   path_step : Of (λ _. form.path) (λ _. reader.read_path) (w.Dot ∷ []) (w.Dot ∷ []) true
   unfolding reader.read_path
@@ -235,26 +238,26 @@ module _ (n : ℕ) where
 
   pub another_name_step : Of (λ _. form.another_name) (λ _. reader.read_another_name) (w.Comma ∷ []) [] false
   unfolding reader.read_another_name
-  another_name_step = then refl (takes Free n w.Comma) (λ u. takes Free n w.Name)
+  another_name_step = then refl (takes Free n w.Comma refl) (λ u. takes Free n w.Name refl)
 
   names_step : Of (λ _. form.names) (λ _. reader.read_names) (w.Name ∷ []) (w.Comma ∷ []) false
   unfolding reader.read_names
-  names_step = then refl (takes Free n w.Name) (λ u. then refl (each (hits (is w.Comma)) (tests w.Comma) refl another_name_step) (λ more. makes Free n tt))
+  names_step = then refl (takes Free n w.Name refl) (λ u. then refl (each (hits (is w.Comma)) (tests w.Comma) refl another_name_step) (λ more. makes Free n tt))
 
   names_behind_step : Of (λ _. form.names_behind) (λ _. reader.read_names_behind) (w.Comma ∷ []) (w.Comma ∷ w.Name ∷ []) true
   unfolding reader.read_names_behind
-  names_behind_step = wide refl refl (then refl (commas (hits (is w.Name)) (tests w.Name) refl refl (takes Free n w.Name)) (λ more. makes Free n tt))
+  names_behind_step = wide refl refl (then refl (commas (hits (is w.Name)) (tests w.Name) refl refl (takes Free n w.Name refl)) (λ more. makes Free n tt))
 
   names_in_step : Of form.names_in reader.read_names_in (w.LeftParen ∷ []) [] false
   unfolding reader.read_names_in
-  names_in_step = opens_then Free n w.LeftParen refl (λ u. then refl (takes Free n w.Name) (λ v. then refl names_behind_step (λ x. takes Free n w.RightParen)))
+  names_in_step = opens_then Free n w.LeftParen refl (λ u. then refl (takes Free n w.Name refl) (λ v. then refl names_behind_step (λ x. takes Free n w.RightParen refl)))
 
   import_step : Of form.import_line reader.read_import_line (w.From ∷ []) [] false
   unfolding reader.read_import_line
   import_step =
-      then refl (takes Free n w.From) (λ u. then refl (carries Free n redun_word (w.Name ∷ []) (spelled (codes "redun")) tt redun_there redun_within)
-      (λ v. then refl path_step (λ p. then refl (takes Free n w.Import)
-      (λ x. then refl (chooses (hits (is w.Name)) (tests w.Name) refl names_step names_in_step) (λ y. takes Free n w.Newline)))))
+      then refl (takes Free n w.From refl) (λ u. then refl (carries Free n redun_word (w.Name ∷ []) refl (spelled (codes "redun")) tt redun_there redun_within)
+      (λ v. then refl path_step (λ p. then refl (takes Free n w.Import refl)
+      (λ x. then refl (chooses (hits (is w.Name)) (tests w.Name) refl names_step names_in_step) (λ y. takes Free n w.Newline refl)))))
 
   -- ---- modules
 
@@ -264,13 +267,13 @@ module _ (n : ℕ) where
 
   docstring_step : Of (λ _. form.docstring) (λ _. reader.read_docstring) (w.Text ∷ []) [] false
   unfolding reader.read_docstring
-  docstring_step = then refl (texts_step Free n) (λ t. then refl (takes Free n w.Newline) (λ u. makes Free n Silent))
+  docstring_step = then refl (texts_step Free n) (λ t. then refl (takes Free n w.Newline refl) (λ u. makes Free n Silent))
 
   namespace_step : Of (λ _. form.namespace) (λ _. reader.read_namespace) (w.Name ∷ []) [] false
   unfolding reader.read_namespace
   namespace_step =
-      then refl (carries Free n namespace_of (w.Name ∷ []) (spelled (codes "redun_namespace")) 0 namespace_there namespace_within)
-      (λ line. then refl (takes Free n w.Assign) (λ u. then refl (texts_step Free n) (λ t. then refl (takes Free n w.Newline) (λ v. makes Free n (Namespace (record { text = t; line = line }))))))
+      then refl (carries Free n namespace_of (w.Name ∷ []) refl (spelled (codes "redun_namespace")) 0 namespace_there namespace_within)
+      (λ line. then refl (takes Free n w.Assign refl) (λ u. then refl (texts_step Free n) (λ t. then refl (takes Free n w.Newline refl) (λ v. makes Free n (Namespace (record { text = t; line = line }))))))
 
   defines_step : Of form.defines reader.read_defines (w.At ∷ w.Def ∷ []) [] false
   unfolding reader.read_defines
@@ -282,7 +285,7 @@ module _ (n : ℕ) where
 
   module_step : Of module_form read_module (w.End ∷ module_first) [] false
   unfolding read_module
-  module_step = wide refl refl (then refl (each (among begins_part) module_is refl part_step) (λ parts. then refl (takes Free n w.End) (λ u. makes Free n (module_of parts))))
+  module_step = wide refl refl (then refl (each (among begins_part) module_is refl part_step) (λ parts. then refl (takes Free n w.End refl) (λ u. makes Free n (module_of parts))))
 
 pub module_lawful : (n : ℕ) → Lawful n module_form read_module (set (w.End ∷ module_first)) (set []) false
 module_lawful n = (module_step n).rule.law (λ j. tt)

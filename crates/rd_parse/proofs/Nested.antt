@@ -12,7 +12,7 @@ use Rattle.rd_parse.specs.Expressions.{Tree, Level, level}
 use Rattle.rd_parse.specs.Reading as reader
 use Rattle.rd_parse.specs.Reading.{Readers, inner}
 use Rattle.rd_parse.proofs.Laws.{Grows, Lawful}
-use Rattle.rd_parse.proofs.Dive.{Below, Brief, Dives, nothing_below}
+use Rattle.rd_parse.proofs.Dive.{Plain, Below, Brief, Dives, nothing_below}
 use Rattle.rd_parse.proofs.Rules.{Up}
 use Rattle.rd_parse.proofs.Sets.{set, sets_apart}
 use Rattle.rd_parse.proofs.Samples.{example}
@@ -76,6 +76,18 @@ pub record Inside (n : ℕ) : Type 0 where
   pub factor : Below n (λ m. (level m).factor) (λ m. (inner m).factor) (set factor_first) (set factor_more) false
   pub parts : (e : Tree) → Below n (λ m. (level m).parts e) (λ m. (inner m).parts e) (set part_first) (set parts_more) true
 
+record Shut (l : Level) : Type 0 where
+  pub expression : (a : Tree) (ts rest : List Token) → l.expression a ts rest → ⊥
+  pub disjunction : (a : Tree) (ts rest : List Token) → l.disjunction a ts rest → ⊥
+  pub inversion : (a : Tree) (ts rest : List Token) → l.inversion a ts rest → ⊥
+  pub factor : (a : Tree) (ts rest : List Token) → l.factor a ts rest → ⊥
+  pub parts : (e a : Tree) (ts rest : List Token) → l.parts e a ts rest → ⊥
+
+-- where no level may open, nothing stands inside
+nothing_inside : Shut (level 0)
+unfolding level
+nothing_inside = record { expression = λ a ts rest h. h; disjunction = λ a ts rest h. h; inversion = λ a ts rest h. h; factor = λ a ts rest h. h; parts = λ e a ts rest h. h }
+
 pub record Ups (j : ℕ) : Type 0 where
   pub expression : Up j (λ m. (level m).expression)
   pub disjunction : Up j (λ m. (level m).disjunction)
@@ -85,19 +97,19 @@ pub record Ups (j : ℕ) : Type 0 where
 
 module _ (n : ℕ) (l : Inside n) (lone : Lone n level inner) where
   expression_inside : Inward Ups n (λ m. (level m).expression) (λ m. (inner m).expression) first expression_more false
-  expression_inside = one_further n _ _ (λ j u. u.expression) l.expression expression_some
+  expression_inside = one_further n _ _ (λ j u. u.expression) l.expression expression_some (λ a ts rest h. nothing_inside.expression a ts rest h)
 
   disjunction_inside : Inward Ups n (λ m. (level m).disjunction) (λ m. (inner m).disjunction) first disjunction_more false
-  disjunction_inside = one_further n _ _ (λ j u. u.disjunction) l.disjunction disjunction_some
+  disjunction_inside = one_further n _ _ (λ j u. u.disjunction) l.disjunction disjunction_some (λ a ts rest h. nothing_inside.disjunction a ts rest h)
 
   inversion_inside : Inward Ups n (λ m. (level m).inversion) (λ m. (inner m).inversion) first comparison_more false
-  inversion_inside = one_further n _ _ (λ j u. u.inversion) l.inversion inversion_some
+  inversion_inside = one_further n _ _ (λ j u. u.inversion) l.inversion inversion_some (λ a ts rest h. nothing_inside.inversion a ts rest h)
 
   factor_inside : Inward Ups n (λ m. (level m).factor) (λ m. (inner m).factor) factor_first factor_more false
-  factor_inside = one_further n _ _ (λ j u. u.factor) l.factor factor_some
+  factor_inside = one_further n _ _ (λ j u. u.factor) l.factor factor_some (λ a ts rest h. nothing_inside.factor a ts rest h)
 
   parts_inside : (e : Tree) → Inward Ups n (λ m. (level m).parts e) (λ m. (inner m).parts e) part_first parts_more true
-  parts_inside e = one_further n _ _ (λ j u. u.parts e) (l.parts e) (parts_some e)
+  parts_inside e = one_further n _ _ (λ j u. u.parts e) (l.parts e) (parts_some e) (λ a ts rest h. nothing_inside.parts e a ts rest h)
 
   pub at_conditional : Step Ups n (λ m. form.conditional m (level m)) (λ m. reader.read_conditional m (inner m)) first expression_more false
   at_conditional = rule.conditional_step Ups n level inner expression_inside disjunction_inside inversion_inside factor_inside parts_inside lone
@@ -142,11 +154,11 @@ ups (suc j) = record {
 inside_suc : (n : ℕ) → Inside n → Lone n level inner → Inside (suc n)
 unfolding level inner
 inside_suc n l lone = record {
-  expression = from_outside n (λ m. (level m).expression) (λ m. (inner m).expression) ups (at_conditional n l lone);
-  disjunction = from_outside n (λ m. (level m).disjunction) (λ m. (inner m).disjunction) ups (at_disjunction n l lone);
-  inversion = from_outside n (λ m. (level m).inversion) (λ m. (inner m).inversion) ups (at_inversion n l lone);
-  factor = from_outside n (λ m. (level m).factor) (λ m. (inner m).factor) ups (at_factor n l lone);
-  parts = λ e. from_outside n (λ m. (level m).parts e) (λ m. (inner m).parts e) ups (at_parts n l lone e);
+  expression = from_outside n (λ m. (level m).expression) (λ m. (inner m).expression) ups expression_some (at_conditional n l lone);
+  disjunction = from_outside n (λ m. (level m).disjunction) (λ m. (inner m).disjunction) ups disjunction_some (at_disjunction n l lone);
+  inversion = from_outside n (λ m. (level m).inversion) (λ m. (inner m).inversion) ups inversion_some (at_inversion n l lone);
+  factor = from_outside n (λ m. (level m).factor) (λ m. (inner m).factor) ups factor_some (at_factor n l lone);
+  parts = λ e. from_outside n (λ m. (level m).parts e) (λ m. (inner m).parts e) ups (parts_some e) (at_parts n l lone e);
 }
 
 assign_ends : (u : Token) (after : List Token) → hits (is w.Assign) u ≡ true → sees (set expression_more) (u ∷ after) ≡ false
@@ -175,6 +187,10 @@ expression_dives n = let d = at_level n in (at_conditional n d.0 d.1).dives ups
 pub expression_brief : Brief form.expression
 unfolding form.expression
 expression_brief = (at_conditional 0 inside_zero lone_zero).brief
+
+pub expression_plain : Plain form.expression
+unfolding form.expression
+expression_plain = (at_conditional 0 inside_zero lone_zero).plain
 
 pub expression_grows : Grows form.expression
 unfolding form.expression

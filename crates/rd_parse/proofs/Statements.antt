@@ -25,9 +25,9 @@ use Rattle.rd_parse.proofs.Sets.{holds_one, set, join_set, and_both, by_way, set
 use Rattle.rd_parse.proofs.Samples.{example, example_is}
 use Rattle.rd_parse.proofs.Steps.{Step, Inward, settled, one_further, from_outside, opens_then, wide, carries, takes, makes, then, chooses, each, tests, picks}
 use Rattle.rd_parse.proofs.Expressions.{first, expression_more, first_is, name_is, name_there, there_some}
-use Rattle.rd_parse.proofs.Dive.{Below, Brief, Dives, nothing_below, below_dives, noting_dives, noting_ends, sunk, not_sunk}
+use Rattle.rd_parse.proofs.Dive.{Plain, Below, Brief, Dives, nothing_below, below_dives, noting_dives, noting_ends, sunk, not_sunk}
 use Rattle.rd_parse.proofs.DiveTurns.{Firsts}
-use Rattle.rd_parse.proofs.Nested.{expression_dives, expression_brief, lone_expression, expression_lawful, expression_grows}
+use Rattle.rd_parse.proofs.Nested.{expression_plain, expression_dives, expression_brief, lone_expression, expression_lawful, expression_grows}
 use Rattle.rd_parse.proofs.Loops.{Shrinks, shrinks_of}
 use Rattle.rd_parse.proofs.Noting.{noting_lawful}
 
@@ -89,19 +89,19 @@ module _ (U : ℕ → Type 0) (n : ℕ) (X : ℕ → Form Token (Unit {0})) (F :
 
   pub dotted_name_step : Step U n (λ _. form.dotted_name) (λ _. reader.read_dotted_name) (w.Dot ∷ []) [] false
   unfolding reader.read_dotted_name
-  dotted_name_step = then refl (takes U n w.Dot) (λ u. takes U n w.Name)
+  dotted_name_step = then refl (takes U n w.Dot refl) (λ u. takes U n w.Name refl)
 
   long_name_step : Step U n (λ _. form.long_name) (λ _. reader.read_long_name) (w.Name ∷ []) (w.Dot ∷ []) false
   unfolding reader.read_long_name
-  long_name_step = then refl (takes U n w.Name) (λ u. then refl (each (hits (is w.Dot)) (tests w.Dot) refl dotted_name_step) (λ more. makes U n tt))
+  long_name_step = then refl (takes U n w.Name refl) (λ u. then refl (each (hits (is w.Dot)) (tests w.Dot) refl dotted_name_step) (λ more. makes U n tt))
 
   kind_step : Step U n (λ _. form.kind) (λ _. reader.read_kind) part_first (w.Dot ∷ []) false
   unfolding reader.read_kind
-  kind_step = wide refl refl (chooses (hits (is w.Name)) (tests w.Name) refl long_name_step (chooses (hits (is w.Nothing)) (tests w.Nothing) refl (takes U n w.Nothing) (takes U n w.Text)))
+  kind_step = wide refl refl (chooses (hits (is w.Name)) (tests w.Name) refl long_name_step (chooses (hits (is w.Nothing)) (tests w.Nothing) refl (takes U n w.Nothing refl) (takes U n w.Text refl)))
 
   pub another_step : Within form.another reader.read_another (w.Comma ∷ []) annotation_more false
   unfolding reader.read_another
-  another_step = then refl (takes U n w.Comma) (λ u. inside)
+  another_step = then refl (takes U n w.Comma refl) (λ u. inside)
 
   others_step : Within form.others reader.read_others (w.Comma ∷ []) (w.Comma ∷ annotation_more) true
   unfolding reader.read_others
@@ -109,7 +109,7 @@ module _ (U : ℕ → Type 0) (n : ℕ) (X : ℕ → Form Token (Unit {0})) (F :
 
   of_kinds_step : Kind form.of_kinds reader.read_of_kinds (w.LeftSquare ∷ []) [] false
   unfolding reader.read_of_kinds
-  of_kinds_step = opens_then U n w.LeftSquare refl (λ u. then refl inside (λ v. then refl others_step (λ x. then refl (takes U n w.RightSquare) (λ y. makes U n tt))))
+  of_kinds_step = opens_then U n w.LeftSquare refl (λ u. then refl inside (λ v. then refl others_step (λ x. then refl (takes U n w.RightSquare refl) (λ y. makes U n tt))))
 
   union_part_step : Kind form.union_part reader.read_union_part part_first part_more false
   unfolding reader.read_union_part
@@ -117,7 +117,7 @@ module _ (U : ℕ → Type 0) (n : ℕ) (X : ℕ → Form Token (Unit {0})) (F :
 
   pub another_part_step : Kind form.another_part reader.read_another_part (w.Bar ∷ []) part_more false
   unfolding reader.read_another_part
-  another_part_step = then refl (takes U n w.Bar) (λ u. union_part_step)
+  another_part_step = then refl (takes U n w.Bar refl) (λ u. union_part_step)
 
   pub union_step : Kind form.union reader.read_union part_first annotation_more false
   unfolding reader.read_union
@@ -140,8 +140,12 @@ On j = Up j inner_annotation
 abbrev Annotations : ℕ → Type 0
 Annotations n = Below n inner_annotation read_inner_annotation (set part_first) (set annotation_more) false
 
+no_annotation : (a : Unit {0}) (ts rest : List Token) → inner_annotation 0 a ts rest → ⊥
+unfolding inner_annotation
+no_annotation a ts rest h = h
+
 inside_at : (n : ℕ) → Annotations n → Inward On n inner_annotation read_inner_annotation part_first annotation_more false
-inside_at n l = one_further n _ _ (λ j u. u) l annotation_some
+inside_at n l = one_further n _ _ (λ j u. u) l annotation_some no_annotation
 
 union_at : (n : ℕ) → Annotations n → Step On n (λ m. form.union m (inner_annotation m)) (λ m. reader.read_union m (read_inner_annotation m)) part_first annotation_more false
 union_at n l = union_step On n inner_annotation read_inner_annotation (inside_at n l)
@@ -158,7 +162,7 @@ annotations_up (suc j) = (union_at 0 annotations_zero).rule.up j (annotations_up
 annotations_at : (n : ℕ) → Annotations n
 unfolding inner_annotation read_inner_annotation
 annotations_at zero = annotations_zero
-annotations_at (suc n) = from_outside n inner_annotation read_inner_annotation annotations_up (union_at n (annotations_at n))
+annotations_at (suc n) = from_outside n inner_annotation read_inner_annotation annotations_up annotation_some (union_at n (annotations_at n))
 
 pub annotation_lawful : (n : ℕ) → Lawful n annotation read_annotation (set part_first) (set annotation_more) false
 unfolding annotation
@@ -172,16 +176,20 @@ pub annotation_brief : Brief annotation
 unfolding annotation
 annotation_brief = (union_at 0 annotations_zero).brief
 
+pub annotation_plain : Plain annotation
+unfolding annotation
+annotation_plain = (union_at 0 annotations_zero).plain
+
 pub annotation_grows : Grows annotation
 unfolding annotation
 annotation_grows n = (union_at 0 annotations_zero).rule.up n (annotations_up n)
 
 annotation_base : (U : ℕ → Type 0) (n : ℕ) → Step U n annotation read_annotation part_first annotation_more false
-annotation_base U n = settled n _ _ annotation_grows (annotation_lawful n) (annotation_dives n) annotation_brief
+annotation_base U n = settled n _ _ annotation_grows (annotation_lawful n) (annotation_dives n) annotation_brief annotation_plain
 
 pub annotated_step : (U : ℕ → Type 0) (n : ℕ) → Step U n annotated read_annotated (w.Colon ∷ []) (w.Colon ∷ annotation_more) true
 unfolding annotated read_annotated
-annotated_step U n = wide refl refl (chooses (hits (is w.Colon)) (tests w.Colon) refl (then refl (takes U n w.Colon) (λ u. annotation_base U n)) (makes U n tt))
+annotated_step U n = wide refl refl (chooses (hits (is w.Colon)) (tests w.Colon) refl (then refl (takes U n w.Colon refl) (λ u. annotation_base U n)) (makes U n tt))
 
 -- ---- an assignment, or an expression
 
@@ -279,7 +287,7 @@ module _ (n : ℕ)
 
 module _ (U : ℕ → Type 0) (n : ℕ) where
   value_step : Step U n expression read_expression first expression_more false
-  value_step = settled n _ _ expression_grows (expression_lawful n) (expression_dives n) expression_brief
+  value_step = settled n _ _ expression_grows (expression_lawful n) (expression_dives n) expression_brief expression_plain
 
   below_law : (n : ℕ) → Lawful n (below expression) (read_below read_expression) (set first) (set expression_more) false
   below_law zero = below_zero expression read_expression _ _ false (expression_lawful 0).some
@@ -293,32 +301,32 @@ module _ (U : ℕ → Type 0) (n : ℕ) where
       record { by_ = example w.Name ∷ []; value = node.Name a.0; gives = λ k. lone_expression 0 (level 0) a.0 (example w.Name) k a.1 }
 
   below_step : Inward U n (below expression) (read_below read_expression) first expression_more false
-  below_step = one_further n _ _ (λ j u. below_grows expression expression_grows j) (record { law = below_law n; dives = below_dives expression read_expression expression_dives n }) name_below
+  below_step = one_further n _ _ (λ j u. below_grows expression expression_grows j) (record { law = below_law n; dives = below_dives expression read_expression name_below expression_dives n }) name_below (λ a ts rest h. h)
 
   the_name : Step U n (λ _. one name_of) (λ _. read_one name_of) (w.Name ∷ []) [] false
-  the_name = carries U n name_of (w.Name ∷ []) (example w.Name) _ name_there (λ t h. name_is t ∙ h)
+  the_name = carries U n name_of (w.Name ∷ []) refl (example w.Name) _ name_there (λ t h. name_is t ∙ h)
 
   returning_step : Step U n form.returning reader.read_returning (w.Return ∷ []) simple_more false
   unfolding reader.read_returning
   returning_step =
-      wide refl refl (then refl (takes U n w.Return) (λ u. chooses (among begins_expression) first_is refl (then refl value_step (λ e. makes U n (Some (statement.Return (Some e))))) (makes U n (Some (statement.Return None)))))
+      wide refl refl (then refl (takes U n w.Return refl) (λ u. chooses (among begins_expression) first_is refl (then refl value_step (λ e. makes U n (Some (statement.Return (Some e))))) (makes U n (Some (statement.Return None)))))
 
   raising_step : Step U n form.raising reader.read_raising (w.Raise ∷ []) [] false
   unfolding reader.read_raising
   raising_step =
-      then refl (takes U n w.Raise) (λ u. then refl the_name (λ class. opens_then U n w.LeftParen refl (λ v. then refl below_step (λ e. then refl (takes U n w.RightParen) (λ x. makes U n (Some (statement.Raise class e)))))))
+      then refl (takes U n w.Raise refl) (λ u. then refl the_name (λ class. opens_then U n w.LeftParen refl (λ v. then refl below_step (λ e. then refl (takes U n w.RightParen refl) (λ x. makes U n (Some (statement.Raise class e)))))))
 
   passing_step : Step U n form.passing reader.read_passing (w.Pass ∷ []) [] false
   unfolding reader.read_passing
-  passing_step = then refl (takes U n w.Pass) (λ u. makes U n (Some statement.Pass))
+  passing_step = then refl (takes U n w.Pass refl) (λ u. makes U n (Some statement.Pass))
 
   adding_step : (name : Name) → Step U n (λ m. form.adding m name) (λ m. reader.read_adding m name) (w.AddAssign ∷ []) expression_more false
   unfolding reader.read_adding
-  adding_step name = then refl (takes U n w.AddAssign) (λ u. then refl value_step (λ e. makes U n (Some (statement.Assign name (plus_value name e)))))
+  adding_step name = then refl (takes U n w.AddAssign refl) (λ u. then refl value_step (λ e. makes U n (Some (statement.Assign name (plus_value name e)))))
 
   giving_step : (name : Name) → Step U n (λ m. form.giving m name) (λ m. reader.read_giving m name) (w.Colon ∷ w.Assign ∷ []) expression_more false
   unfolding reader.read_giving
-  giving_step name = then refl (annotated_step U n) (λ u. then refl (takes U n w.Assign) (λ v. then refl value_step (λ e. makes U n (Some (statement.Assign name e)))))
+  giving_step name = then refl (annotated_step U n) (λ u. then refl (takes U n w.Assign refl) (λ v. then refl value_step (λ e. makes U n (Some (statement.Assign name e)))))
 
   assigned_step : (name : Name) → Step U n (λ m. form.assigned m name) (λ m. reader.read_assigned m name) assignment_first expression_more false
   unfolding reader.read_assigned
@@ -336,6 +344,7 @@ module _ (U : ℕ → Type 0) (n : ℕ) where
     };
     dives = λ x. noting_dives ⊥ n (hits text_of) expression read_expression (expression_dives n);
     brief = noting_ends 1 (hits text_of) expression [] expression_brief;
+    plain = λ x ts rest h. expression_plain x.1 ts rest h.3;
   }
 
   speaking_step : Step U n form.speaking reader.read_speaking first expression_more false
@@ -355,7 +364,7 @@ module _ (U : ℕ → Type 0) (n : ℕ) where
 
   pub line_step : Step U n form.line reader.read_line simple_first [] false
   unfolding reader.read_line
-  line_step = wide refl refl (then refl simple_step (λ s. then refl (takes U n w.Newline) (λ u. makes U n s)))
+  line_step = wide refl refl (then refl simple_step (λ s. then refl (takes U n w.Newline refl) (λ u. makes U n s)))
 
 -- ---- blocks
 
@@ -373,25 +382,25 @@ module _ (U : ℕ → Type 0) (n : ℕ) (X : ℕ → Form Token (List Command)) 
 
   another_branch_step : Of form.another_branch reader.read_another_branch (w.Elif ∷ []) [] false
   unfolding reader.read_another_branch
-  another_branch_step = then refl (takes U n w.Elif) (λ u. branch_step)
+  another_branch_step = then refl (takes U n w.Elif refl) (λ u. branch_step)
 
   otherwise_step : Of form.otherwise reader.read_otherwise (w.Else ∷ []) (w.Else ∷ []) true
   unfolding reader.read_otherwise
-  otherwise_step = wide refl refl (chooses (hits (is w.Else)) (tests w.Else) refl (then refl (takes U n w.Else) (λ u. block_step)) (makes U n []))
+  otherwise_step = wide refl refl (chooses (hits (is w.Else)) (tests w.Else) refl (then refl (takes U n w.Else refl) (λ u. block_step)) (makes U n []))
 
   choice_step : Of form.choice reader.read_choice (w.If ∷ []) statement_more false
   unfolding reader.read_choice
   choice_step =
-      wide refl refl (then refl (takes U n w.If) (λ u. then refl branch_step (λ b. then refl (each (hits (is w.Elif)) (tests w.Elif) refl another_branch_step) (λ more. then refl otherwise_step (λ other. makes U n (Some (statement.If (b ∷ more) other)))))))
+      wide refl refl (then refl (takes U n w.If refl) (λ u. then refl branch_step (λ b. then refl (each (hits (is w.Elif)) (tests w.Elif) refl another_branch_step) (λ more. then refl otherwise_step (λ other. makes U n (Some (statement.If (b ∷ more) other)))))))
 
   for_each_step : Of form.for_each reader.read_for_each (w.For ∷ []) [] false
   unfolding reader.read_for_each
   for_each_step =
-      then refl (takes U n w.For) (λ u. then refl (the_name U n) (λ name. then refl (takes U n w.In) (λ v. then refl (value_step U n) (λ iterable. then refl block_step (λ all. makes U n (Some (statement.For name iterable all)))))))
+      then refl (takes U n w.For refl) (λ u. then refl (the_name U n) (λ name. then refl (takes U n w.In refl) (λ v. then refl (value_step U n) (λ iterable. then refl block_step (λ all. makes U n (Some (statement.For name iterable all)))))))
 
   while_true_step : Of form.while_true reader.read_while_true (w.While ∷ []) [] false
   unfolding reader.read_while_true
-  while_true_step = then refl (takes U n w.While) (λ u. then refl (value_step U n) (λ test. then refl block_step (λ all. makes U n (Some (statement.While test all)))))
+  while_true_step = then refl (takes U n w.While refl) (λ u. then refl (value_step U n) (λ test. then refl block_step (λ all. makes U n (Some (statement.While test all)))))
 
   command_step : Of form.command reader.read_command statement_first statement_more false
   unfolding reader.read_command
@@ -401,7 +410,7 @@ module _ (U : ℕ → Type 0) (n : ℕ) (X : ℕ → Form Token (List Command)) 
   indented_step : Of form.indented reader.read_indented (w.Newline ∷ []) [] false
   unfolding reader.read_indented
   indented_step =
-      then refl (takes U n w.Newline) (λ u. then refl (takes U n w.Indent) (λ v. then refl command_step (λ c. then refl (each (among begins_statement) statement_is refl command_step) (λ more. then refl (takes U n w.Dedent) (λ x. makes U n (kept (c ∷ more)))))))
+      then refl (takes U n w.Newline refl) (λ u. then refl (takes U n w.Indent refl) (λ v. then refl command_step (λ c. then refl (each (among begins_statement) statement_is refl command_step) (λ more. then refl (takes U n w.Dedent refl) (λ x. makes U n (kept (c ∷ more)))))))
 
   alone_step : Of form.alone reader.read_alone simple_first [] false
   unfolding reader.read_alone
@@ -433,8 +442,12 @@ OnBlock j = Up j behind_colon
 abbrev Blocks : ℕ → Type 0
 Blocks n = Below n behind_colon read_behind_colon (set block_first) (set []) false
 
+no_block : (a : List Command) (ts rest : List Token) → behind_colon 0 a ts rest → ⊥
+unfolding behind_colon
+no_block a ts rest h = h
+
 commands_at : (n : ℕ) → Blocks n → Step OnBlock n (λ m. form.commands m (behind_colon m)) (λ m. reader.read_commands m (read_behind_colon m)) block_first [] false
-commands_at n l = commands_step OnBlock n behind_colon read_behind_colon (one_further n _ _ (λ j u. u) l behind_some)
+commands_at n l = commands_step OnBlock n behind_colon read_behind_colon (one_further n _ _ (λ j u. u) l behind_some no_block)
 
 blocks_zero : Blocks 0
 unfolding behind_colon read_behind_colon
@@ -448,23 +461,27 @@ blocks_up (suc j) = (commands_at 0 blocks_zero).rule.up j (blocks_up j)
 blocks_at : (n : ℕ) → Blocks n
 unfolding behind_colon read_behind_colon
 blocks_at zero = blocks_zero
-blocks_at (suc n) = from_outside n behind_colon read_behind_colon blocks_up (commands_at n (blocks_at n))
+blocks_at (suc n) = from_outside n behind_colon read_behind_colon blocks_up behind_some (commands_at n (blocks_at n))
 
 pub block_lawful : (n : ℕ) → Lawful n a_block read_a_block (set (w.Colon ∷ [])) (set []) false
 unfolding a_block
-block_lawful n = (block_step OnBlock n behind_colon read_behind_colon (one_further n _ _ (λ j u. u) (blocks_at n) behind_some)).rule.law blocks_up
+block_lawful n = (block_step OnBlock n behind_colon read_behind_colon (one_further n _ _ (λ j u. u) (blocks_at n) behind_some no_block)).rule.law blocks_up
 
 pub block_dives : (n : ℕ) → Dives ⊥ n a_block read_a_block
 unfolding a_block
-block_dives n = (block_step OnBlock n behind_colon read_behind_colon (one_further n _ _ (λ j u. u) (blocks_at n) behind_some)).dives blocks_up
+block_dives n = (block_step OnBlock n behind_colon read_behind_colon (one_further n _ _ (λ j u. u) (blocks_at n) behind_some no_block)).dives blocks_up
 
 pub block_brief : Brief a_block
 unfolding a_block
-block_brief = (block_step OnBlock 0 behind_colon read_behind_colon (one_further 0 _ _ (λ j u. u) blocks_zero behind_some)).brief
+block_brief = (block_step OnBlock 0 behind_colon read_behind_colon (one_further 0 _ _ (λ j u. u) blocks_zero behind_some no_block)).brief
+
+pub block_plain : Plain a_block
+unfolding a_block
+block_plain = (block_step OnBlock 0 behind_colon read_behind_colon (one_further 0 _ _ (λ j u. u) blocks_zero behind_some no_block)).plain
 
 pub block_grows : Grows a_block
 unfolding a_block
-block_grows n = (block_step OnBlock 0 behind_colon read_behind_colon (one_further 0 _ _ (λ j u. u) blocks_zero behind_some)).rule.up n (blocks_up n)
+block_grows n = (block_step OnBlock 0 behind_colon read_behind_colon (one_further 0 _ _ (λ j u. u) blocks_zero behind_some no_block)).rule.up n (blocks_up n)
 
 -- ---- what is read again and again takes something
 

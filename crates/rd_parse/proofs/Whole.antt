@@ -3,9 +3,11 @@ use Rattle.std.proofs.Common.{◌≡◌, ℕ, suc, ◌+◌, ◌≤◌, Bool, tru
 use Rattle.std.specs.Prelude.{◌==◌}
 use Rattle.std.proofs.lemmas.Bool.{eqb-true}
 use Rattle.std.proofs.lemmas.List.{append-nil}
-use Rattle.rd_parse.specs.Form.{Form, IsText, Viable, IsStuck, StopsAt, TooDeep}
+use Rattle.rd_parse.specs.Form.{Form, IsText, Viable, IsStuck, StopsAt}
+use Rattle.rd_syntax.specs.declared.token.Token.{Token}
+use Rattle.rd_parse.specs.Nesting.{ViableWithin, TooDeep}
 use Rattle.rd_parse.specs.Reader.{Stop, Refused, Deep, Outcome, Reader, head}
-use Rattle.rd_parse.proofs.Dive.{Dive, Dives}
+use Rattle.rd_parse.proofs.Dive.{Ends, Dive, Dives}
 use Rattle.rd_parse.proofs.Laws.{Grows, Lawful, raise, got, got_value, got_rest, stopped}
 
 module _ {T A : Type 0} (P : ℕ → Form T A) (f : ℕ → Reader T A) (first more : T → Bool) (null : Bool) (grows : Grows P) (laws : (n : ℕ) → Lawful n P f first more null) where
@@ -70,23 +72,31 @@ module _ {T A : Type 0} (P : ℕ → Form T A) (f : ℕ → Reader T A) (first m
   text_more n ts a (t ∷ after) some e = text_longer n ts a t after e
 
 -- where a text opens one level too many
-pub text_deep : {T A : Type 0} (P : ℕ → Form T A) (f : ℕ → Reader T A) (first more : T → Bool) (null : Bool) → Grows P → ((n : ℕ) → Lawful n P f first more null) → (n : ℕ) → Dives ⊥ n P f
-    → (ts after : List T) → f n ts ≡ Err (Deep after) → TooDeep P n ts after
-text_deep {T} {A} P f first more null grows laws n dives ts after e = elim (dives ts after e) [ inl d ↦ deep d | inr b ↦ absurd b ]
-  where
-    deep : Dive n P f ts after → TooDeep P n ts after
-    deep d = record {
-      before = d.used;
-      token = d.token;
-      behind = d.after;
-      parts = d.parts;
-      left = d.left;
-      viable = (d.completes.by_, d.completes.value, subst (λ (c : List T). P (suc n) d.completes.value ((d.used ++ d.token ∷ []) ++ c) []) (append-nil d.completes.by_) (d.completes.gives []));
-      closed = λ v.
-          let s = d.sinks v.0 in
-          let h : P n v.1 (d.used ++ d.token ∷ v.0) [] = subst (λ (ts : List T). P n v.1 ts []) (append_assoc d.used (d.token ∷ []) v.0) v.2 in
-          text_not_read P f first _ null grows laws n (d.used ++ d.token ∷ v.0) (Deep s.0) v.1 s.1 h;
-    }
+module _ {A : Type 0} (P : ℕ → Form Token A) (f : ℕ → Reader Token A) (first more : Token → Bool) (null : Bool) (grows : Grows P) (laws : (n : ℕ) → Lawful n P f first more null) (m : ℕ) (dives : Dives ⊥ (suc m) P f) where
+  ends_viable : (n : ℕ) (used : List Token) → Ends n P used → ViableWithin P n used
+  ends_viable n used c = (c.by_, c.value, subst (λ (r : List Token). P n c.value (used ++ r) []) (append-nil c.by_) (c.gives []))
+
+  deep : (ts after : List Token) → Dive (suc m) P f ts after → TooDeep P (suc m) ts after
+  deep ts after d = record {
+    before = d.used;
+    token = d.token;
+    behind = d.after;
+    parts = d.parts;
+    left = d.left;
+    closed = λ v.
+        let s = d.sinks v.0 in
+        let h : P (suc m) v.1 (d.used ++ d.token ∷ v.0) [] = subst (λ (ts : List Token). P (suc m) v.1 ts []) (append_assoc d.used (d.token ∷ []) v.0) v.2 in
+        text_not_read P f first more null grows laws (suc m) (d.used ++ d.token ∷ v.0) (Deep s.0) v.1 s.1 h;
+    viable = ends_viable (suc (suc m)) (d.used ++ d.token ∷ []) d.completes;
+    start = d.fits.0;
+    pending = d.fits.1;
+    split = d.fits.2;
+    flat = d.fits.3;
+    fits = ends_viable (suc m) d.fits.0 d.fits.4;
+  }
+
+  pub text_deep : (ts after : List Token) → f (suc m) ts ≡ Err (Deep after) → TooDeep P (suc m) ts after
+  text_deep ts after e = elim (dives ts after e) [ inl d ↦ deep ts after d | inr b ↦ absurd b ]
 
 pub none_left : {T : Type 0} (n : ℕ) (ts : List T) → n ≡ length ts → (n == 0) ≡ true → ts ≡ []
 none_left n [] l h = refl

@@ -2,7 +2,8 @@
 use Rattle.std.proofs.Common.{◌≡◌, ℕ, false, List, [], Ok, Err, sym, subst, ◌∙◌, ◌≢◌}
 use Rattle.rd_syntax.specs.declared.token.Token.{Token}
 use Rattle.rd_parse.specs.declared.tree.Module.{Module}
-use Rattle.rd_parse.specs.Form.{StopsAt, TooDeep}
+use Rattle.rd_parse.specs.Form.{StopsAt}
+use Rattle.rd_parse.specs.Nesting.{TooDeep}
 use Rattle.rd_parse.specs.Reader.{Stop, Refused, Deep}
 use Rattle.rd_parse.specs.Literals.{Literal, literal_text, IsLiteral}
 use Rattle.rd_parse.specs.LiteralReading.{read_literal_text}
@@ -15,6 +16,10 @@ use Rattle.rd_parse.proofs.Modules.{module_lawful, module_grows, module_dives}
 
 abbrev levels : ℕ
 levels = 64
+
+-- one less
+abbrev spare : ℕ
+spare = 63
 
 -- ---- modules
 
@@ -52,7 +57,7 @@ module_stops ts after m some e = text_more module_form read_module _ _ false mod
 
 -- where a module opens one level too many
 pub module_deep : (ts after : List Token) → read_module 64 ts ≡ Err (Deep after) → TooDeep module_form 64 ts after
-module_deep ts after e = text_deep module_form read_module _ _ false module_grows module_lawful levels (module_dives levels) ts after e
+module_deep ts after e = text_deep module_form read_module _ _ false module_grows module_lawful spare (module_dives levels) ts after e
 
 -- ---- literals
 
@@ -70,4 +75,4 @@ unfolding IsLiteral
 one_literal ts v u h k = one_value literal_text read_literal_text _ _ false literal_text_grows literal_text_lawful levels levels v u ts h k
 
 pub literal_deep : (ts after : List Token) → read_literal_text 64 ts ≡ Err (Deep after) → TooDeep literal_text 64 ts after
-literal_deep ts after e = text_deep literal_text read_literal_text _ _ false literal_text_grows literal_text_lawful levels (literal_text_dives levels) ts after e
+literal_deep ts after e = text_deep literal_text read_literal_text _ _ false literal_text_grows literal_text_lawful spare (literal_text_dives levels) ts after e

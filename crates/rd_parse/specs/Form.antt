@@ -94,17 +94,3 @@ pub record StopsAt {T A : Type 0} (P : ℕ → Form T A) (ts after : List T) : T
   pub parts : ts ≡ before ++ after
   pub viable : Viable P before
   pub stuck : IsStuck P before after
-
--- some text in which no more than so many levels are open begins so
-abbrev pub ViableWithin : {T A : Type 0} → (ℕ → Form T A) → ℕ → List T → Type 0
-ViableWithin {T} {A} P n ts = (more : List T) × (a : A) × IsText P n a (ts ++ more)
-
--- The first of the tokens left makes it one level more than so many: within the levels no text begins with the tokens up to this one, and with one level more some text does.
-pub record TooDeep {T A : Type 0} (P : ℕ → Form T A) (n : ℕ) (ts after : List T) : Type 0 where
-  pub before : List T
-  pub token : T
-  pub behind : List T
-  pub parts : ts ≡ before ++ token ∷ behind
-  pub left : after ≡ token ∷ behind
-  pub closed : ViableWithin P n (before ++ token ∷ []) → ⊥
-  pub viable : ViableWithin P (suc n) (before ++ token ∷ [])

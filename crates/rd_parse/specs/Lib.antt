@@ -4,6 +4,7 @@ pub mod Such
 pub mod Literals
 pub mod LiteralReading
 pub mod Noting
+pub mod Nesting
 pub mod Statements
 pub mod StatementReading
 pub mod Form

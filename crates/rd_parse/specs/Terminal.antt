@@ -1,6 +1,6 @@
 -- What a token is to the grammar.
 use Rattle.std.specs.Option.{option_map}
-use Rattle.std.specs.Prelude.{ℤ, pos, ℕ, ◌+◌, ◌*◌, ◌-◌, nat_le, List, [], ◌∷◌, codes, Option, Some, None, Bool, true, false, ◌&&◌, if◌then◌else◌}
+use Rattle.std.specs.Prelude.{not, ℤ, pos, ℕ, ◌+◌, ◌*◌, ◌-◌, nat_le, List, [], ◌∷◌, codes, Option, Some, None, Bool, true, false, ◌&&◌, if◌then◌else◌}
 use Rattle.std.specs.Str.{bytes_eq}
 use denote.Enum.Bare.{sameb}
 use Rattle.rd_syntax.specs.declared.token.TokenKind.{TokenKind}
@@ -155,3 +155,13 @@ spells wanted _ s = false
 -- the name that is spelled so
 abbrev pub this_word : List ℕ → Token → Option (Unit {0})
 this_word wanted t = flag (spells wanted (terminal t) t.text)
+
+abbrev pub is_bracket : Terminal → Bool
+is_bracket w.LeftParen = true
+is_bracket w.LeftSquare = true
+is_bracket w.LeftCurly = true
+is_bracket _ = false
+
+-- a token that opens no bracket
+abbrev pub plain : Token → Bool
+plain t = not (is_bracket (terminal t))
