@@ -1,0 +1,143 @@
+-- Slots of parameters, as they are made, found, filled and read.
+use Rattle.std.proofs.Common.{◌≡◌, ℕ, zero, suc, ◌+◌, ◌<◌, ◌≤◌, Bool, true, false, cond, refl, sym, ap, ◌∙◌, List, [], ◌∷◌, ◌++◌, length, map, get_or, set, None, Some, Ok, Err, arith, append_assoc, append-nil, add-one}
+use Rattle.std.specs.Prelude.{Option, Result}
+use Rattle.std.specs.List.{slice_get}
+use Rattle.std.specs.Option.{option_map}
+use Rattle.std.specs.Str.{bytes_eq}
+use Rattle.std.proofs.lemmas.List.{map-append, length-map, length_push}
+use Rattle.rd_value.specs.declared.signature.Parameter.{Parameter}
+use Rattle.rd_value.specs.declared.value.ErrorValue.{ErrorValue}
+use Rattle.rd_value.specs.declared.value.FileValue.{FileValue}
+use Rattle.rd_value.specs.declared.value.Datum.{Datum}
+use Rattle.rd_value.specs.Bind as bind
+use Rattle.rd_value.specs.Bind.{and_then, empty, placed, filled, with_keyword, with_keywords, settled, all_settled, limited, too_many, unknown, given_twice}
+use Rattle.rd_meaning.specs.declared.binding.Slot.{Slot}
+use Rattle.rd_meaning.specs.Binding.{parameter_of, slot_of, in_order, place_of}
+
+-- ---- the positional arguments
+
+module _ {V : Type 0} where
+  none_given : (n : ℕ) (ps : List (List ℕ × Option V)) → in_order n ps [] ≡ map empty ps
+  none_given n [] = refl
+  none_given n (p ∷ ps) = ap (λ slots. empty p ∷ slots) (none_given (suc n) ps)
+
+  behind : (n : ℕ) (ps : List (List ℕ × Option V)) (v : V) (vs : List V) → in_order (suc n) ps (v ∷ vs) ≡ in_order n ps vs
+  behind n [] v vs = refl
+  behind n (p ∷ ps) v vs = ap (λ slots. record { name = p.0; default = p.1; given = slice_get vs n } ∷ slots) (behind (suc n) ps v vs)
+
+  pub placed_in_order : (ps : List (List ℕ × Option V)) (vs : List V) → length vs ≤ length ps → placed ps vs ≡ Ok (in_order 0 ps vs)
+  placed_in_order ps [] h = ap Ok (sym (none_given 0 ps))
+  placed_in_order [] (v ∷ vs) h = absurd (omega arith)
+  placed_in_order (p ∷ ps) (v ∷ vs) h = rw (placed_in_order ps vs (omega arith), behind 0 ps v vs) refl
+
+  pub placed_too_many : (ps : List (List ℕ × Option V)) (vs : List V) → length ps < length vs → placed ps vs ≡ Err too_many
+  placed_too_many ps [] h = absurd (omega arith)
+  placed_too_many [] (v ∷ vs) h = refl
+  placed_too_many (p ∷ ps) (v ∷ vs) h = rw (placed_too_many ps vs (omega arith)) refl
+
+-- one slot more
+pub slots_more : (slots new : List Slot) (s : Slot) (ps rest : List Parameter) (p : Parameter) (vs : List (Datum FileValue)) (target : List (bind.Slot (Datum FileValue))) →
+    new ≡ slots ++ s ∷ [] → ps ≡ p ∷ rest → slot_of s ≡ record { name = p.name; default = p.default; given = slice_get vs (length slots) } →
+    map slot_of slots ++ in_order (length slots) (map parameter_of ps) vs ≡ target → map slot_of new ++ in_order (length new) (map parameter_of rest) vs ≡ target
+slots_more slots new s ps rest p vs target e d same i =
+    rw (e, map-append slot_of slots (s ∷ []), length_push slots s, add-one, append_assoc, same) (rw d at i)
+
+-- ---- a name
+
+shifted : (n : ℕ) (o : Option ℕ) → option_map (λ k. n + k) (option_map suc o) ≡ option_map (λ k. (n + 1) + k) o
+shifted n None = refl
+shifted n (Some k) = ap Some (omega arith)
+
+-- the first slot has the name
+pub here : (name : List ℕ) (n : ℕ) (slots rest : List Slot) (s : Slot) (o : Option ℕ) → slots ≡ s ∷ rest → bytes_eq s.name name ≡ true →
+    option_map (λ k. n + k) (place_of name (map slot_of slots)) ≡ o → Some n ≡ o
+here name n slots rest s o d e i = ap Some (omega arith) ∙ rw (d, e) at i
+
+-- the first slot has another name
+pub later : (name : List ℕ) (n m : ℕ) (slots rest : List Slot) (s : Slot) (o : Option ℕ) → m ≡ n + 1 → slots ≡ s ∷ rest → bytes_eq s.name name ≡ false →
+    option_map (λ k. n + k) (place_of name (map slot_of slots)) ≡ o → option_map (λ k. m + k) (place_of name (map slot_of rest)) ≡ o
+later name n m slots rest s o p d e i = rw p (sym (shifted n (place_of name (map slot_of rest))) ∙ rw (d, e) at i)
+
+-- ---- a keyword
+
+module _ (name : List ℕ) (v : Datum FileValue) where
+  unknown_by : (t : Slot) (slots : List Slot) (b : Bool) (o : Option ℕ) → (o ≡ None → with_keyword (name, v) (map slot_of slots) ≡ Err (unknown name)) → cond b (Some 0) (option_map suc o) ≡ None →
+      cond b (and_then (filled v (slot_of t) t.given) (λ full. Ok (full ∷ map slot_of slots))) (and_then (with_keyword (name, v) (map slot_of slots)) (λ rest. Ok (slot_of t ∷ rest))) ≡ Err (unknown name)
+  unknown_by t slots true o ih e = absurd cc
+  unknown_by t slots false (Some k) ih e = absurd cc
+  unknown_by t slots false None ih e = rw (ih refl) refl
+
+  pub unknown_name : (slots : List Slot) → place_of name (map slot_of slots) ≡ None → with_keyword (name, v) (map slot_of slots) ≡ Err (unknown name)
+  unknown_name [] e = refl
+  unknown_name (t ∷ slots) e = unknown_by t slots (bytes_eq t.name name) (place_of name (map slot_of slots)) (unknown_name slots) e
+
+  -- what comes of a slot that was found
+  found : Slot → List Slot → ℕ → Option (Datum FileValue) → Result (List (bind.Slot (Datum FileValue))) ErrorValue
+  found s slots i (Some w) = Err (given_twice s.name)
+  found s slots i None = Ok (map slot_of (set slots i (record { name = s.name; default = s.default; given = Some v })))
+
+  first_found : (t : Slot) (slots : List Slot) (o : Option (Datum FileValue)) → and_then (filled v (slot_of t) o) (λ full. Ok (full ∷ map slot_of slots)) ≡ found t (t ∷ slots) 0 o
+  unfolding found
+  first_found t slots (Some w) = refl
+  first_found t slots None = refl
+
+  next_found : (s t : Slot) (slots : List Slot) (i : ℕ) (o : Option (Datum FileValue)) → and_then (found s slots i o) (λ rest. Ok (slot_of t ∷ rest)) ≡ found s (t ∷ slots) (suc i) o
+  unfolding found
+  next_found s t slots i (Some w) = refl
+  next_found s t slots i None = refl
+
+  found_by : (s t : Slot) (slots : List Slot) (i : ℕ) (b : Bool) (o : Option ℕ) → ((j : ℕ) → o ≡ Some j → s ≡ get_or slots j s → with_keyword (name, v) (map slot_of slots) ≡ found s slots j s.given) →
+      cond b (Some 0) (option_map suc o) ≡ Some i → s ≡ get_or (t ∷ slots) i s →
+      cond b (and_then (filled v (slot_of t) t.given) (λ full. Ok (full ∷ map slot_of slots))) (and_then (with_keyword (name, v) (map slot_of slots)) (λ rest. Ok (slot_of t ∷ rest))) ≡ found s (t ∷ slots) i s.given
+  found_by s t slots zero true o ih e q = rw q (first_found t slots t.given)
+  found_by s t slots (suc i) true o ih e q = absurd cc
+  found_by s t slots i false None ih e q = absurd cc
+  found_by s t slots zero false (Some j) ih e q = absurd cc
+  found_by s t slots (suc i) false (Some j) ih e q = rw (ih i (cc) q) (next_found s t slots i s.given)
+
+  found_at : (slots : List Slot) (i : ℕ) (s : Slot) → place_of name (map slot_of slots) ≡ Some i → s ≡ get_or slots i s → with_keyword (name, v) (map slot_of slots) ≡ found s slots i s.given
+  found_at [] i s e q = absurd cc
+  found_at (t ∷ slots) i s e q = found_by s t slots i (bytes_eq t.name name) (place_of name (map slot_of slots)) (λ j. found_at slots j s) e q
+
+  pub fills : (slots : List Slot) (i : ℕ) (s : Slot) → place_of name (map slot_of slots) ≡ Some i → s ≡ get_or slots i s → s.given ≡ None →
+      with_keyword (name, v) (map slot_of slots) ≡ Ok (map slot_of (set slots i (record { name = s.name; default = s.default; given = Some v })))
+  unfolding found
+  fills slots i s e q g = found_at slots i s e q ∙ ap (found s slots i) g
+
+  pub fills_twice : (slots : List Slot) (i : ℕ) (s : Slot) (w : Datum FileValue) → place_of name (map slot_of slots) ≡ Some i → s ≡ get_or slots i s → s.given ≡ Some w →
+      with_keyword (name, v) (map slot_of slots) ≡ Err (given_twice s.name)
+  unfolding found
+  fills_twice slots i s w e q g = found_at slots i s e q ∙ ap (found s slots i) g
+
+-- ---- the value of each parameter
+
+module _ {V : Type 0} where
+  pushed : (values new : List V) (v : V) (r : Result (List V) ErrorValue) → new ≡ values ++ v ∷ [] →
+      and_then r (λ vs. Ok (new ++ vs)) ≡ and_then (and_then r (λ vs. Ok (v ∷ vs))) (λ vs. Ok (values ++ vs))
+  pushed values new v (Ok vs) e = ap Ok (rw e (append_assoc values (v ∷ []) vs))
+  pushed values new v (Err x) e = refl
+
+pub settles_one : (values new : List (Datum FileValue)) (v : Datum FileValue) (slots rest : List Slot) (s : Slot) (target : Result (List (Datum FileValue)) ErrorValue) →
+    new ≡ values ++ v ∷ [] → slots ≡ s ∷ rest → settled s.name s.given s.default ≡ Ok v →
+    and_then (all_settled (map slot_of slots)) (λ vs. Ok (values ++ vs)) ≡ target → and_then (all_settled (map slot_of rest)) (λ vs. Ok (new ++ vs)) ≡ target
+settles_one values new v slots rest s target e d h i = pushed values new v (all_settled (map slot_of rest)) e ∙ rw (d, h) at i
+
+pub settles_none : (values : List (Datum FileValue)) (x : ErrorValue) (slots rest : List Slot) (s : Slot) (target : Result (List (Datum FileValue)) ErrorValue) →
+    slots ≡ s ∷ rest → settled s.name s.given s.default ≡ Err x →
+    and_then (all_settled (map slot_of slots)) (λ vs. Ok (values ++ vs)) ≡ target → Err x ≡ target
+settles_none values x slots rest s target d h i = rw (d, h) at i
+
+-- ---- the whole
+
+-- there are more arguments than parameters
+pub binds_too_many : (ps : List Parameter) (vs : List (Datum FileValue)) (ks : List (List ℕ × Datum FileValue)) → length ps < length vs → bind.bind (λ f. f) (map parameter_of ps) vs ks ≡ Err too_many
+binds_too_many ps vs ks h =
+    let more : length (map parameter_of ps) < length vs = simp length-map h in
+    rw (placed_too_many (map parameter_of ps) vs more) refl
+
+-- there are no more than that
+pub binds : (ps : List Parameter) (vs : List (Datum FileValue)) (ks : List (List ℕ × Datum FileValue)) → length vs ≤ length ps →
+    bind.bind (λ f. f) (map parameter_of ps) vs ks ≡ and_then (and_then (with_keywords ks (in_order 0 (map parameter_of ps) vs)) all_settled) (limited (λ f. f))
+binds ps vs ks h =
+    let fewer : length vs ≤ length (map parameter_of ps) = simp length-map h in
+    rw (placed_in_order (map parameter_of ps) vs fewer) refl

@@ -1,0 +1,3 @@
+pub mod Binding
+pub mod Order
+pub mod Step

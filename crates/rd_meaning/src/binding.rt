@@ -1,0 +1,202 @@
+//! Arguments bound to the parameters of a task.
+
+ghost use Rattle.std.specs.Prelude.{◌≡◌, ◌<◌, ◌++◌, IfOk, IfSome, Ok, map, length, codes};
+ghost use Rattle.std.specs.Option.{option_copied};
+ghost use Rattle.rd_value.specs.Bind as spec;
+ghost use Rattle.rd_value.specs.Bind.{and_then, parameters_of, with_keyword, with_keywords, all_settled};
+ghost use Rattle.rd_meaning.specs.Binding.{parameter_of, slot_of, in_order, place_of};
+ghost use Rattle.rd_meaning.specs.Step.{ComesTo, step_in};
+
+use crate::error::value_limit;
+use crate::step::{StepError, stepped};
+use rd_base::{Copies, Items, OutOfMemory, Text};
+use rd_value::class::Class;
+use rd_value::limits::are_within;
+use rd_value::raise::raised;
+use rd_value::signature::{Parameter, Signature};
+use rd_value::value::{ErrorValue, Value, Values};
+use std::alloc::Global;
+
+/// Values by name.
+pub type NamedValues = Items<(Text, Value)>;
+
+/// A parameter, and what it is given.
+#[derive(Drop)]
+struct Slot {
+    name: Text,
+    default: Option<Value>,
+    given: Option<Value>,
+}
+
+fn too_many(alloc: Global) -> Result<ErrorValue, OutOfMemory>
+    ensures { IfOk result (λ e. e ≡ spec.too_many) }
+{
+    raised(alloc, Class::TypeError, "too many arguments")
+}
+
+fn unknown(alloc: Global, name: &str) -> Result<ErrorValue, OutOfMemory>
+    ensures { IfOk result (λ e. e ≡ spec.unknown name.now) }
+{
+    let mut text = String::from_str(alloc, "unknown argument ")?;
+    text.push_str(name)?;
+    raised(alloc, Class::TypeError, text.as_str())
+}
+
+fn given_twice(alloc: Global, name: &str) -> Result<ErrorValue, OutOfMemory>
+    ensures { IfOk result (λ e. e ≡ spec.given_twice name.now) }
+{
+    let mut text = String::from_str(alloc, "argument ")?;
+    text.push_str(name)?;
+    text.push_str(" given twice")?;
+    raised(alloc, Class::TypeError, text.as_str())
+}
+
+fn missing(alloc: Global, name: &str) -> Result<ErrorValue, OutOfMemory>
+    ensures { IfOk result (λ e. e ≡ spec.missing name.now) }
+{
+    let mut text = String::from_str(alloc, "missing argument ")?;
+    text.push_str(name)?;
+    raised(alloc, Class::TypeError, text.as_str())
+}
+
+fn copied(alloc: Global, value: Option<&Value>) -> Result<Option<Value>, OutOfMemory>
+    ensures { IfOk result (λ copy. copy ≡ option_copied value.entry) }
+{
+    match value {
+        Some(value) => Ok(Some(value.copy(alloc)?)),
+        None => Ok(None),
+    }
+}
+
+/// A slot for each parameter, with the positional arguments in the first ones.
+fn slots_in_order(
+    alloc: Global,
+    parameters: &[Parameter],
+    positional: &[Value],
+) -> Result<Vec<Slot>, OutOfMemory>
+    ensures { IfOk result (λ slots. map slot_of slots.items ≡ in_order 0 (map parameter_of parameters.now) positional.now) }
+{
+    let mut slots = Vec::new(alloc);
+    for parameter in parameters {
+        let given = copied(alloc, positional.get(slots.len()))?;
+        slots.push(Slot {
+            name: parameter.name.copy(alloc)?,
+            default: copied(alloc, parameter.default.as_ref())?,
+            given,
+        })?;
+    }
+    Ok(slots)
+}
+
+/// The place of the first slot of a name.
+fn place_of(slots: &[Slot], name: &Text) -> Option<usize>
+    ensures value { result ≡ place_of name.now (map slot_of slots.now) }
+    ensures within { IfSome result (λ place. place < length slots.now) }
+{
+    let mut place = 0;
+    for slot in slots {
+        if slot.name == *name {
+            return Some(place);
+        }
+        place += 1;
+    }
+    None
+}
+
+fn fill(
+    alloc: Global,
+    slots: &mut [Slot],
+    name: &Text,
+    value: &Value,
+) -> Result<Result<(), ErrorValue>, OutOfMemory>
+    ensures { IfOk result (λ r. with_keyword (name.now, value.now) (map slot_of slots.old) ≡ and_then r (λ _. Ok (map slot_of slots.new))) }
+{
+    let Some(place) = place_of(slots, name) else {
+        return Ok(Err(unknown(alloc, name.as_str())?));
+    };
+    let slot = &mut slots[place];
+    if slot.given.is_some() {
+        return Ok(Err(given_twice(alloc, name.as_str())?));
+    }
+    slot.given = Some(value.copy(alloc)?);
+    Ok(Ok(()))
+}
+
+fn fill_all(
+    alloc: Global,
+    slots: &mut [Slot],
+    keywords: &[(Text, Value)],
+) -> Result<Result<(), ErrorValue>, OutOfMemory>
+    ensures { IfOk result (λ r. with_keywords keywords.now (map slot_of slots.old) ≡ and_then r (λ _. Ok (map slot_of slots.new))) }
+{
+    for (name, value) in keywords {
+        if let Err(error) = fill(alloc, slots, name, value)? {
+            return Ok(Err(error));
+        }
+    }
+    Ok(Ok(()))
+}
+
+fn settled(alloc: Global, slots: &[Slot]) -> Result<Result<Values, ErrorValue>, OutOfMemory>
+    ensures { IfOk result (λ r. r ≡ all_settled (map slot_of slots.now)) }
+{
+    let mut values = Vec::new(alloc);
+    for slot in slots {
+        match (&slot.given, &slot.default) {
+            (Some(value), _) => values.push(value.copy(alloc)?)?,
+            (None, Some(value)) => values.push(value.copy(alloc)?)?,
+            (None, None) => return Ok(Err(missing(alloc, slot.name.as_str())?)),
+        }
+    }
+    Ok(Ok(Values::from_vec(alloc, values)?))
+}
+
+fn limited(alloc: Global, values: Values) -> Result<Result<Values, ErrorValue>, OutOfMemory>
+    ensures { IfOk result (λ r. r ≡ spec.limited (λ f. f) values) }
+{
+    if are_within(values.as_slice()) {
+        Ok(Ok(values))
+    } else {
+        Ok(Err(value_limit(alloc)?))
+    }
+}
+
+fn bound(
+    alloc: Global,
+    parameters: &[Parameter],
+    positional: &[Value],
+    keywords: &[(Text, Value)],
+) -> Result<Result<Values, ErrorValue>, OutOfMemory>
+    ensures { IfOk result (λ r. r ≡ spec.bind (λ f. f) (map parameter_of parameters.now) positional.now keywords.now) }
+{
+    if parameters.len() < positional.len() {
+        return Ok(Err(too_many(alloc)?));
+    }
+    let mut slots = slots_in_order(alloc, parameters, positional)?;
+    if let Err(error) = fill_all(alloc, &mut slots, keywords)? {
+        return Ok(Err(error));
+    }
+    match settled(alloc, &slots)? {
+        Ok(values) => limited(alloc, values),
+        Err(error) => Ok(Err(error)),
+    }
+}
+
+/// The value of each parameter, in their order. A failure's origin is the task.
+pub fn bind(
+    alloc: Global,
+    task: &str,
+    signature: &Signature,
+    positional: &Values,
+    keywords: &NamedValues,
+) -> Result<Values, StepError>
+    ensures { ComesTo result (step_in task.now (spec.bind (λ f. f) (parameters_of signature.now) positional.now keywords.now)) }
+{
+    let answer = bound(
+        alloc,
+        signature.parameters.as_slice(),
+        positional.as_slice(),
+        keywords.as_slice(),
+    )?;
+    stepped(alloc, task, answer)
+}
