@@ -2,7 +2,7 @@
 use Rattle.std.proofs.Common.{◌≡◌, ℕ, zero, suc, ◌+◌, ◌<◌, ◌≤◌, Bool, true, false, cond, refl, sym, ap, ◌∙◌, List, [], ◌∷◌, ◌++◌, length, map, get_or, set, None, Some, Ok, Err, arith, append_assoc, append-nil, add-one}
 use Rattle.std.specs.Prelude.{Option, Result}
 use Rattle.std.specs.List.{slice_get}
-use Rattle.std.specs.Option.{option_map}
+use Rattle.std.specs.Option.{option_map, is_some}
 use Rattle.std.specs.Str.{bytes_eq}
 use Rattle.std.proofs.lemmas.List.{map-append, length-map, length_push}
 use Rattle.rd_value.specs.declared.signature.Parameter.{Parameter}
@@ -99,15 +99,23 @@ module _ (name : List ℕ) (v : Datum FileValue) where
   found_at [] i s e q = absurd cc
   found_at (t ∷ slots) i s e q = found_by s t slots i (bytes_eq t.name name) (place_of name (map slot_of slots)) (λ j. found_at slots j s) e q
 
-  pub fills : (slots : List Slot) (i : ℕ) (s : Slot) → place_of name (map slot_of slots) ≡ Some i → s ≡ get_or slots i s → s.given ≡ None →
-      with_keyword (name, v) (map slot_of slots) ≡ Ok (map slot_of (set slots i (record { name = s.name; default = s.default; given = Some v })))
+  found_free : (s : Slot) (slots : List Slot) (i : ℕ) (o : Option (Datum FileValue)) → is_some o ≡ false → found s slots i o ≡ Ok (map slot_of (set slots i (record { name = s.name; default = s.default; given = Some v })))
   unfolding found
-  fills slots i s e q g = found_at slots i s e q ∙ ap (found s slots i) g
+  found_free s slots i (Some w) g = absurd cc
+  found_free s slots i None g = refl
 
-  pub fills_twice : (slots : List Slot) (i : ℕ) (s : Slot) (w : Datum FileValue) → place_of name (map slot_of slots) ≡ Some i → s ≡ get_or slots i s → s.given ≡ Some w →
-      with_keyword (name, v) (map slot_of slots) ≡ Err (given_twice s.name)
+  found_taken : (s : Slot) (slots : List Slot) (i : ℕ) (o : Option (Datum FileValue)) → is_some o ≡ true → found s slots i o ≡ Err (given_twice s.name)
   unfolding found
-  fills_twice slots i s w e q g = found_at slots i s e q ∙ ap (found s slots i) g
+  found_taken s slots i (Some w) g = refl
+  found_taken s slots i None g = absurd cc
+
+  pub fills : (slots : List Slot) (i : ℕ) (s : Slot) → place_of name (map slot_of slots) ≡ Some i → s ≡ get_or slots i s → is_some s.given ≡ false →
+      with_keyword (name, v) (map slot_of slots) ≡ Ok (map slot_of (set slots i (record { name = s.name; default = s.default; given = Some v })))
+  fills slots i s e q g = found_at slots i s e q ∙ found_free s slots i s.given g
+
+  pub fills_twice : (slots : List Slot) (i : ℕ) (s : Slot) → place_of name (map slot_of slots) ≡ Some i → s ≡ get_or slots i s → is_some s.given ≡ true →
+      with_keyword (name, v) (map slot_of slots) ≡ Err (given_twice s.name)
+  fills_twice slots i s e q g = found_at slots i s e q ∙ found_taken s slots i s.given g
 
 -- ---- the value of each parameter
 
@@ -135,9 +143,18 @@ binds_too_many ps vs ks h =
     let more : length (map parameter_of ps) < length vs = simp length-map h in
     rw (placed_too_many (map parameter_of ps) vs more) refl
 
--- there are no more than that
-pub binds : (ps : List Parameter) (vs : List (Datum FileValue)) (ks : List (List ℕ × Datum FileValue)) → length vs ≤ length ps →
-    bind.bind (λ f. f) (map parameter_of ps) vs ks ≡ and_then (and_then (with_keywords ks (in_order 0 (map parameter_of ps) vs)) all_settled) (limited (λ f. f))
-binds ps vs ks h =
-    let fewer : length vs ≤ length (map parameter_of ps) = simp length-map h in
-    rw (placed_in_order (map parameter_of ps) vs fewer) refl
+module _ (ps : List Parameter) (vs : List (Datum FileValue)) (ks : List (List ℕ × Datum FileValue)) (few : length vs ≤ length ps) where
+  binds : bind.bind (λ f. f) (map parameter_of ps) vs ks ≡ and_then (and_then (with_keywords ks (in_order 0 (map parameter_of ps) vs)) all_settled) (limited (λ f. f))
+  binds =
+      let fewer : length vs ≤ length (map parameter_of ps) = simp length-map few in
+      rw (placed_in_order (map parameter_of ps) vs fewer) refl
+
+  -- a keyword fails
+  pub binds_failed : (slots : List Slot) (e : ErrorValue) → map slot_of slots ≡ in_order 0 (map parameter_of ps) vs → with_keywords ks (map slot_of slots) ≡ Err e →
+      bind.bind (λ f. f) (map parameter_of ps) vs ks ≡ Err e
+  binds_failed slots e s k = let b = binds in rw (← s, k) at b
+
+  -- all keywords find their slots
+  pub binds_filled : (slots filled : List Slot) (r : Result (List (Datum FileValue)) ErrorValue) → map slot_of slots ≡ in_order 0 (map parameter_of ps) vs →
+      with_keywords ks (map slot_of slots) ≡ Ok (map slot_of filled) → all_settled (map slot_of filled) ≡ r → bind.bind (λ f. f) (map parameter_of ps) vs ks ≡ and_then r (limited (λ f. f))
+  binds_filled slots filled r s k a = let b = binds in rw (← s, k, a) at b

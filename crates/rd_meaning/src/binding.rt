@@ -116,7 +116,7 @@ fn fill(
     };
     let slot = &mut slots[place];
     if slot.given.is_some() {
-        return Ok(Err(given_twice(alloc, name.as_str())?));
+        return Ok(Err(given_twice(alloc, slot.name.as_str())?));
     }
     slot.given = Some(value.copy(alloc)?);
     Ok(Ok(()))
@@ -172,11 +172,12 @@ fn bound(
     if parameters.len() < positional.len() {
         return Ok(Err(too_many(alloc)?));
     }
-    let mut slots = slots_in_order(alloc, parameters, positional)?;
-    if let Err(error) = fill_all(alloc, &mut slots, keywords)? {
+    let mut made = slots_in_order(alloc, parameters, positional)?;
+    let slots = made.as_mut_slice();
+    if let Err(error) = fill_all(alloc, slots, keywords)? {
         return Ok(Err(error));
     }
-    match settled(alloc, &slots)? {
+    match settled(alloc, slots)? {
         Ok(values) => limited(alloc, values),
         Err(error) => Ok(Err(error)),
     }
