@@ -1,7 +1,7 @@
 //! Arguments bound to the parameters of a task.
 
 ghost use Rattle.std.specs.Prelude.{◌≡◌, ◌<◌, ◌++◌, IfOk, IfSome, Ok, map, length, codes};
-ghost use Rattle.std.specs.Option.{option_copied};
+ghost use Rattle.std.specs.List.{slice_get};
 ghost use Rattle.rd_value.specs.Bind as spec;
 ghost use Rattle.rd_value.specs.Bind.{and_then, parameters_of, with_keyword, with_keywords, all_settled};
 ghost use Rattle.rd_meaning.specs.Binding.{parameter_of, slot_of, in_order, place_of};
@@ -59,10 +59,20 @@ fn missing(alloc: Global, name: &str) -> Result<ErrorValue, OutOfMemory>
     raised(alloc, Class::TypeError, text.as_str())
 }
 
-fn copied(alloc: Global, value: Option<&Value>) -> Result<Option<Value>, OutOfMemory>
-    ensures { IfOk result (λ copy. copy ≡ option_copied value.entry) }
+fn default_of(alloc: Global, parameter: &Parameter) -> Result<Option<Value>, OutOfMemory>
+    ensures { IfOk result (λ o. o ≡ parameter.now.default) }
 {
-    match value {
+    match &parameter.default {
+        Some(value) => Ok(Some(value.copy(alloc)?)),
+        None => Ok(None),
+    }
+}
+
+/// The argument at a place, where there is one.
+fn argument(alloc: Global, positional: &[Value], place: usize) -> Result<Option<Value>, OutOfMemory>
+    ensures { IfOk result (λ o. o ≡ slice_get positional.now place) }
+{
+    match positional.get(place) {
         Some(value) => Ok(Some(value.copy(alloc)?)),
         None => Ok(None),
     }
@@ -78,10 +88,10 @@ fn slots_in_order(
 {
     let mut slots = Vec::new(alloc);
     for parameter in parameters {
-        let given = copied(alloc, positional.get(slots.len()))?;
+        let given = argument(alloc, positional, slots.len())?;
         slots.push(Slot {
             name: parameter.name.copy(alloc)?,
-            default: copied(alloc, parameter.default.as_ref())?,
+            default: default_of(alloc, parameter)?,
             given,
         })?;
     }

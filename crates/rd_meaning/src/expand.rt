@@ -56,11 +56,7 @@ fn listed(alloc: Global, parts: Exprs) -> Result<Result<Expr, ErrorValue>, OutOf
     }
 }
 
-fn mapped(
-    alloc: Global,
-    task: &str,
-    list: &Value,
-) -> Result<Result<Expr, ErrorValue>, OutOfMemory>
+fn mapped(alloc: Global, task: &str, list: &Value) -> Result<Result<Expr, ErrorValue>, OutOfMemory>
     ensures { IfOk result (λ r. r ≡ spec.expand_map (λ f. f) task.now list.now) }
 {
     let Value::List(items) = list else {

@@ -86,7 +86,10 @@ fn repeated_list(alloc: Global, items: &Values, count: Option<i64>) -> Result<An
     if items_size(alloc, items)?.saturating_mul(times) > MAX_SIZE as usize {
         return Ok(Err(value_limit(alloc)?));
     }
-    kept(alloc, Value::List(repeated(alloc, items.as_slice(), times)?))
+    kept(
+        alloc,
+        Value::List(repeated(alloc, items.as_slice(), times)?),
+    )
 }
 
 /// The operator `*`.

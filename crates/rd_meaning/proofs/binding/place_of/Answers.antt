@@ -23,5 +23,5 @@ loop-slot-preserved c =
     let other : bytes_eq c.slot-item.result.name c.args.name.now ≡ false = sym c.eq.ensures ∙ c.if-eq.false in
     let first = item_first slots i c.slot-item.result c.loop-slot-test.true c.slot-item.is in record {
       place = ap (λ k. k + 1) c.loop-slot.invariant.place;
-      left = later c.args.name.now i (i + 1) (drop i slots) (drop (i + 1) slots) c.slot-item.result (place_of c.args.name.now (map slot_of slots)) refl first other c.loop-slot.invariant.left
+      left = later c.args.name.now i (i + 1) (drop i slots) (drop (i + 1) slots) c.slot-item.result (place_of c.args.name.now (map slot_of slots)) refl first other c.loop-slot.invariant.left;
     }

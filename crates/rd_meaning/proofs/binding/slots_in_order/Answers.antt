@@ -12,9 +12,9 @@ loop-parameter-preserved c =
     let p = c.parameter-item.result in
     let vs = c.args.positional.now in
     let name : c.in_ok-copy.field-0 ≡ p.name = search rules in
-    let default : c.in_ok-copied.field-0 ≡ p.default = search rules in
+    let default : c.in_ok-default_of.field-0 ≡ p.default = search rules in
     let given : c.in_ok-given.given ≡ slice_get vs c.len.result = search rules in
     let count : c.len.result ≡ length slots = omega (arith, c.len.ensures, c.loop-parameter.slots.ok.0) in
     let first = item_first c.args.parameters.now i p c.loop-parameter-test.true c.parameter-item.is in
-    slots_more slots c.push.new.self.items (record { name = c.in_ok-copy.field-0; default = c.in_ok-copied.field-0; given = c.in_ok-given.given }) (drop i c.args.parameters.now) (drop (i + 1) c.args.parameters.now) p vs
+    slots_more slots c.push.new.self.items (record { name = c.in_ok-copy.field-0; default = c.in_ok-default_of.field-0; given = c.in_ok-given.given }) (drop i c.args.parameters.now) (drop (i + 1) c.args.parameters.now) p vs
     (in_order 0 (map parameter_of c.args.parameters.now) vs) c.in_ok-push.ensures.items first (rw (name, default, given, count) refl) c.loop-parameter.invariant
