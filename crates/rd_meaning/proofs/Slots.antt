@@ -1,9 +1,11 @@
 -- Slots of parameters, as they are made, found, filled and read.
 use Rattle.std.proofs.Common.{◌≡◌, ℕ, zero, suc, ◌+◌, ◌<◌, ◌≤◌, Bool, true, false, cond, refl, sym, ap, ◌∙◌, List, [], ◌∷◌, ◌++◌, length, map, get_or, set, None, Some, Ok, Err, arith, append_assoc, append-nil, add-one}
 use Rattle.std.specs.Prelude.{Option, Result}
-use Rattle.std.specs.List.{slice_get}
+use Rattle.std.specs.List.{slice_get, position, position_from}
 use Rattle.std.specs.Option.{option_map, is_some}
 use Rattle.std.specs.Str.{bytes_eq}
+use Rattle.std.proofs.lemmas.Iterator.Adapters.{position_from-zero}
+use Rattle.std.proofs.lemmas.Slice.Eq.{bytes_eq-Decides}
 use Rattle.std.proofs.lemmas.List.{map-append, length-map, length_push}
 use Rattle.rd_value.specs.declared.signature.Parameter.{Parameter}
 use Rattle.rd_value.specs.declared.value.ErrorValue.{ErrorValue}
@@ -12,7 +14,7 @@ use Rattle.rd_value.specs.declared.value.Datum.{Datum}
 use Rattle.rd_value.specs.Bind as bind
 use Rattle.rd_value.specs.Bind.{and_then, empty, placed, filled, with_keyword, with_keywords, settled, all_settled, limited, too_many, unknown, given_twice}
 use Rattle.rd_meaning.specs.declared.binding.Slot.{Slot}
-use Rattle.rd_meaning.specs.Binding.{parameter_of, slot_of, in_order, place_of}
+use Rattle.rd_meaning.specs.Binding.{parameter_of, slot_of, names_of, in_order, place_of}
 
 -- ---- the positional arguments
 
@@ -57,6 +59,41 @@ here name n slots rest s o d e i = ap Some (omega arith) ∙ rw (d, e) at i
 pub later : (name : List ℕ) (n m : ℕ) (slots rest : List Slot) (s : Slot) (o : Option ℕ) → m ≡ n + 1 → slots ≡ s ∷ rest → bytes_eq s.name name ≡ false →
     option_map (λ k. n + k) (place_of name (map slot_of slots)) ≡ o → option_map (λ k. m + k) (place_of name (map slot_of rest)) ≡ o
 later name n m slots rest s o p d e i = rw p (sym (shifted n (place_of name (map slot_of rest))) ∙ rw (d, e) at i)
+
+-- ---- names
+
+same_if : (p q : Bool) → (p ≡ true → q ≡ true) → (q ≡ true → p ≡ true) → p ≡ q
+same_if true q f g = sym (f refl)
+same_if false true f g = g refl
+same_if false false f g = refl
+
+turned : (a b : List ℕ) → bytes_eq a b ≡ bytes_eq b a
+turned a b =
+    let there : bytes_eq a b ≡ true → bytes_eq b a ≡ true = λ h. (bytes_eq-Decides b a).1 (sym ((bytes_eq-Decides a b).0 h)) in
+    let back : bytes_eq b a ≡ true → bytes_eq a b ≡ true = λ h. (bytes_eq-Decides a b).1 (sym ((bytes_eq-Decides b a).0 h)) in
+    same_if (bytes_eq a b) (bytes_eq b a) there back
+
+as_it_is : (o : Option ℕ) → option_map (λ k. 0 + k) o ≡ o
+as_it_is None = refl
+as_it_is (Some k) = ap Some (omega arith)
+
+counted_by : (n : ℕ) (b : Bool) (o p : Option ℕ) → option_map (λ k. (n + 1) + k) o ≡ p → option_map (λ k. n + k) (cond b (Some 0) (option_map suc o)) ≡ cond b (Some n) p
+counted_by n true o p i = ap Some (omega arith)
+counted_by n false o p i = shifted n o ∙ i
+
+counted : (name : List ℕ) (n : ℕ) (slots : List Slot) → option_map (λ k. n + k) (place_of name (map slot_of slots)) ≡ position_from (bytes_eq name) n (names_of slots)
+counted name n [] = refl
+counted name n (s ∷ slots) = rw (turned name s.name) (counted_by n (bytes_eq s.name name) (place_of name (map slot_of slots)) (position_from (bytes_eq name) (n + 1) (names_of slots)) (counted name (n + 1) slots))
+
+-- the place among the names is that among the slots
+pub place_by_names : (name : List ℕ) (slots : List Slot) → position (bytes_eq name) (names_of slots) ≡ place_of name (map slot_of slots)
+place_by_names name slots = position_from-zero (bytes_eq name) (names_of slots) ∙ (sym (counted name 0 slots) ∙ as_it_is (place_of name (map slot_of slots)))
+
+-- a slot that is filled keeps its name
+pub keeps_names : (slots : List Slot) (i : ℕ) (s t : Slot) → s ≡ get_or slots i s → t.name ≡ s.name → names_of (set slots i t) ≡ names_of slots
+keeps_names [] i s t q e = refl
+keeps_names (r ∷ slots) zero s t q e = rw (e, q) refl
+keeps_names (r ∷ slots) (suc i) s t q e = ap (λ names. r.name ∷ names) (keeps_names slots i s t q e)
 
 -- ---- a keyword
 

@@ -1,5 +1,5 @@
 -- Binding, in the steps of the program.
-use Rattle.std.specs.Prelude.{ℕ, suc, List, [], ◌∷◌, Option, None, Some, if◌then◌else◌}
+use Rattle.std.specs.Prelude.{ℕ, suc, List, [], ◌∷◌, map, Option, None, Some, if◌then◌else◌}
 use Rattle.std.specs.List.{slice_get}
 use Rattle.std.specs.Option.{option_map}
 use Rattle.std.specs.Str.{bytes_eq}
@@ -16,6 +16,10 @@ parameter_of p = (p.name, p.default)
 -- a slot as the definitions have it
 abbrev pub slot_of : Slot → bind.Slot (Datum FileValue)
 slot_of s = record { name = s.name; default = s.default; given = s.given }
+
+-- the names of slots
+abbrev pub names_of : List Slot → List (List ℕ)
+names_of slots = map (λ s. s.name) slots
 
 module _ {V : Type 0} where
   -- a slot for each parameter, given the argument at its place, where there is one

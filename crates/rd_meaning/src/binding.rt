@@ -4,11 +4,12 @@ ghost use Rattle.std.specs.Prelude.{◌≡◌, ◌<◌, ◌++◌, IfOk, IfSome, 
 ghost use Rattle.std.specs.List.{slice_get};
 ghost use Rattle.rd_value.specs.Bind as spec;
 ghost use Rattle.rd_value.specs.Bind.{and_then, parameters_of, with_keyword, with_keywords, all_settled};
-ghost use Rattle.rd_meaning.specs.Binding.{parameter_of, slot_of, in_order, place_of};
+ghost use Rattle.rd_meaning.specs.Binding.{parameter_of, slot_of, names_of, in_order, place_of};
 ghost use Rattle.rd_meaning.specs.Step.{ComesTo, step_in};
 
 use crate::error::value_limit;
 use crate::step::{StepError, stepped};
+use indexmap::IndexSet;
 use rd_base::{Copies, Items, OutOfMemory, Text};
 use rd_value::class::Class;
 use rd_value::limits::are_within;
@@ -113,15 +114,43 @@ fn place_of(slots: &[Slot], name: &Text) -> Option<usize>
     None
 }
 
+/// The names of the slots, if each is there once.
+fn distinct_names(alloc: Global, slots: &[Slot]) -> Result<Option<IndexSet<Text>>, OutOfMemory>
+    ensures { IfOk result (λ o. IfSome o (λ set. set.keys ≡ names_of slots.now)) }
+{
+    let mut names = IndexSet::new(alloc);
+    for slot in slots {
+        if !names.insert(slot.name.copy(alloc)?)? {
+            return Ok(None);
+        }
+    }
+    Ok(Some(names))
+}
+
+/// The same as `place_of`, with one look where there are names.
+fn find(names: &Option<IndexSet<Text>>, slots: &[Slot], name: &Text) -> Option<usize>
+    requires { IfSome names.now (λ set. set.keys ≡ names_of slots.now) }
+    ensures value { result ≡ place_of name.now (map slot_of slots.now) }
+    ensures within { IfSome result (λ place. place < length slots.now) }
+{
+    match names {
+        Some(names) => names.get_index_of(name),
+        None => place_of(slots, name),
+    }
+}
+
 fn fill(
     alloc: Global,
+    names: &Option<IndexSet<Text>>,
     slots: &mut [Slot],
     name: &Text,
     value: &Value,
 ) -> Result<Result<(), ErrorValue>, OutOfMemory>
-    ensures { IfOk result (λ r. with_keyword (name.now, value.now) (map slot_of slots.old) ≡ and_then r (λ _. Ok (map slot_of slots.new))) }
+    requires { IfSome names.now (λ set. set.keys ≡ names_of slots.old) }
+    ensures kept { IfOk result (λ r. names_of slots.new ≡ names_of slots.old) }
+    ensures answer { IfOk result (λ r. with_keyword (name.now, value.now) (map slot_of slots.old) ≡ and_then r (λ _. Ok (map slot_of slots.new))) }
 {
-    let Some(place) = place_of(slots, name) else {
+    let Some(place) = find(names, slots, name) else {
         return Ok(Err(unknown(alloc, name.as_str())?));
     };
     let slot = &mut slots[place];
@@ -134,13 +163,15 @@ fn fill(
 
 fn fill_all(
     alloc: Global,
+    names: &Option<IndexSet<Text>>,
     slots: &mut [Slot],
     keywords: &[(Text, Value)],
 ) -> Result<Result<(), ErrorValue>, OutOfMemory>
+    requires { IfSome names.now (λ set. set.keys ≡ names_of slots.old) }
     ensures { IfOk result (λ r. with_keywords keywords.now (map slot_of slots.old) ≡ and_then r (λ _. Ok (map slot_of slots.new))) }
 {
     for (name, value) in keywords {
-        if let Err(error) = fill(alloc, slots, name, value)? {
+        if let Err(error) = fill(alloc, names, slots, name, value)? {
             return Ok(Err(error));
         }
     }
@@ -184,7 +215,8 @@ fn bound(
     }
     let mut made = slots_in_order(alloc, parameters, positional)?;
     let slots = made.as_mut_slice();
-    if let Err(error) = fill_all(alloc, slots, keywords)? {
+    let names = distinct_names(alloc, slots)?;
+    if let Err(error) = fill_all(alloc, &names, slots, keywords)? {
         return Ok(Err(error));
     }
     match settled(alloc, slots)? {
