@@ -18,6 +18,9 @@ use rd_value::signature::{Parameter, Signature};
 use rd_value::value::{ErrorValue, Value, Values};
 use std::alloc::Global;
 
+/// From so many keywords on, a set of names costs less than a look at each slot.
+const MANY: usize = 8;
+
 /// Values by name.
 pub type NamedValues = Items<(Text, Value)>;
 
@@ -114,10 +117,17 @@ fn place_of(slots: &[Slot], name: &Text) -> Option<usize>
     None
 }
 
-/// The names of the slots, if each is there once.
-fn distinct_names(alloc: Global, slots: &[Slot]) -> Result<Option<IndexSet<Text>>, OutOfMemory>
+/// The names of the slots, if each is there once and the keywords are many.
+fn name_set(
+    alloc: Global,
+    slots: &[Slot],
+    keywords: usize,
+) -> Result<Option<IndexSet<Text>>, OutOfMemory>
     ensures { IfOk result (λ o. IfSome o (λ set. set.keys ≡ names_of slots.now)) }
 {
+    if keywords < MANY {
+        return Ok(None);
+    }
     let mut names = IndexSet::new(alloc);
     for slot in slots {
         if !names.insert(slot.name.copy(alloc)?)? {
@@ -127,7 +137,7 @@ fn distinct_names(alloc: Global, slots: &[Slot]) -> Result<Option<IndexSet<Text>
     Ok(Some(names))
 }
 
-/// The same as `place_of`, with one look where there are names.
+/// The same as `place_of`, by one look into the names where they are there.
 fn find(names: &Option<IndexSet<Text>>, slots: &[Slot], name: &Text) -> Option<usize>
     requires { IfSome names.now (λ set. set.keys ≡ names_of slots.now) }
     ensures value { result ≡ place_of name.now (map slot_of slots.now) }
@@ -215,7 +225,7 @@ fn bound(
     }
     let mut made = slots_in_order(alloc, parameters, positional)?;
     let slots = made.as_mut_slice();
-    let names = distinct_names(alloc, slots)?;
+    let names = name_set(alloc, slots, keywords.len())?;
     if let Err(error) = fill_all(alloc, &names, slots, keywords)? {
         return Ok(Err(error));
     }

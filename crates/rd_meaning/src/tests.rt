@@ -226,6 +226,69 @@ fn refuses_arguments(rt: HostRuntime) -> Result<(), OutOfMemory> {
     expect(&rt, alloc, bound(alloc, 0, &["b"]), want)
 }
 
+/// `def f(b, c, d, ..)`
+fn wide_signature(alloc: Global, letters: &str) -> Result<Signature, OutOfMemory> {
+    let mut parameters = Parameters::new(alloc);
+    for letter in letters.chars() {
+        let mut name = String::new(alloc);
+        name.push(letter)?;
+        parameters.push(
+            alloc,
+            Parameter {
+                name: Text::from_string(alloc, name)?,
+                default: None,
+            },
+        )?;
+    }
+    Ok(Signature { parameters })
+}
+
+fn bound_by_letters(alloc: Global, letters: &str, names: &str) -> Result<Value, StepError> {
+    let mut keywords = NamedValues::new(alloc);
+    for letter in names.chars() {
+        let mut name = String::new(alloc);
+        name.push(letter)?;
+        let value = Value::Int(i64::from(u32::from(letter)));
+        keywords.push(alloc, (Text::from_string(alloc, name)?, value))?;
+    }
+    let signature = wide_signature(alloc, letters)?;
+    let values = bind(alloc, "f", &signature, &Values::new(alloc), &keywords)?;
+    Ok(Value::List(values))
+}
+
+#[test]
+fn binds_many_keywords(rt: HostRuntime) -> Result<(), OutOfMemory> {
+    let alloc = rt.alloc();
+    let want = "[97, 98, 99, 100, 101, 102, 103, 104]";
+    expect(
+        &rt,
+        alloc,
+        bound_by_letters(alloc, "abcdefgh", "hgfedcba"),
+        want,
+    )?;
+    let want = "TypeError('unknown argument i')";
+    expect(
+        &rt,
+        alloc,
+        bound_by_letters(alloc, "abcdefgh", "hgfedcbia"),
+        want,
+    )?;
+    let want = "TypeError('argument h given twice')";
+    expect(
+        &rt,
+        alloc,
+        bound_by_letters(alloc, "abcdefgh", "hgfedchz"),
+        want,
+    )?;
+    let want = "TypeError('missing argument d')";
+    expect(
+        &rt,
+        alloc,
+        bound_by_letters(alloc, "abcdefghi", "abcefghi"),
+        want,
+    )
+}
+
 #[test]
 fn a_binding_fails_in_its_task(rt: HostRuntime) -> Result<(), OutOfMemory> {
     let alloc = rt.alloc();
