@@ -226,16 +226,20 @@ fn refuses_arguments(rt: HostRuntime) -> Result<(), OutOfMemory> {
     expect(&rt, alloc, bound(alloc, 0, &["b"]), want)
 }
 
-/// `def f(b, c, d, ..)`
+fn letter_text(alloc: Global, letter: char) -> Result<Text, OutOfMemory> {
+    let mut text = String::new(alloc);
+    text.push(letter)?;
+    Text::from_string(alloc, text)
+}
+
+/// The signature of a task whose parameters are these letters.
 fn wide_signature(alloc: Global, letters: &str) -> Result<Signature, OutOfMemory> {
     let mut parameters = Parameters::new(alloc);
     for letter in letters.chars() {
-        let mut name = String::new(alloc);
-        name.push(letter)?;
         parameters.push(
             alloc,
             Parameter {
-                name: Text::from_string(alloc, name)?,
+                name: letter_text(alloc, letter)?,
                 default: None,
             },
         )?;
@@ -246,10 +250,8 @@ fn wide_signature(alloc: Global, letters: &str) -> Result<Signature, OutOfMemory
 fn bound_by_letters(alloc: Global, letters: &str, names: &str) -> Result<Value, StepError> {
     let mut keywords = NamedValues::new(alloc);
     for letter in names.chars() {
-        let mut name = String::new(alloc);
-        name.push(letter)?;
         let value = Value::Int(i64::from(u32::from(letter)));
-        keywords.push(alloc, (Text::from_string(alloc, name)?, value))?;
+        keywords.push(alloc, (letter_text(alloc, letter)?, value))?;
     }
     let signature = wide_signature(alloc, letters)?;
     let values = bind(alloc, "f", &signature, &Values::new(alloc), &keywords)?;
