@@ -1,20 +1,18 @@
 -- Texts and lists that are repeated, and how long they get.
-use Rattle.std.proofs.Common.{◌≡◌, ℕ, zero, suc, ◌+◌, ◌*◌, ◌<◌, ◌≤◌, Bool, true, false, ◌&&◌, cond, refl, sym, ap, ◌∙◌, List, [], ◌∷◌, ◌++◌, length, map, Some, Ok, Err, arith, length-append, append_assoc, append-nil, add-one}
-use Rattle.std.specs.Prelude.{ℤ, nat_le}
+use Rattle.std.proofs.Common.{◌≡◌, ℕ, zero, suc, ◌+◌, ◌*◌, ◌<◌, ◌≤◌, refl, sym, ap, ◌∙◌, List, [], ◌∷◌, ◌++◌, length, map, Some, Err, arith, length-append, append_assoc, append-nil, add-one}
+use Rattle.std.specs.Prelude.{ℤ}
 use Rattle.std.proofs.Math.Nat.{zero-mul, suc-mul, mul_comm, mul-le-mul_right}
 use Rattle.std.specs.List.{repeat}
 use Rattle.std.proofs.lemmas.List.{map-append}
 use borrow.Author.Tests.{lt-leb}
 use Rattle.rd_value.specs.declared.value.FileValue.{FileValue}
-use Rattle.rd_value.specs.declared.value.ErrorValue.{ErrorValue}
 use Rattle.rd_value.specs.declared.value.Datum.{Datum}
 use Rattle.rd_value.specs.declared.value.Datum.TheViews as made
 use Rattle.rd_value.specs.declared.value.Datum.TheVariants as variant
 use Rattle.rd_value.specs.declared.value.Datum.TheOpen.{Datum-F}
 use Rattle.rd_value.specs.declared.value.Datum.TheFolds.{fold-roll-Datum}
 use Rattle.rd_value.specs.Canon.{canon, canon_at, string, joined}
-use Rattle.rd_value.specs.Depth.{depth}
-use Rattle.rd_value.specs.Limits.{size, is_within, max_size, max_depth}
+use Rattle.rd_value.specs.Limits.{size, max_size}
 use Rattle.rd_value.specs.Operators.{kept, times, repeated_text, repeated_list, value_limit}
 
 -- once more at the end

@@ -1,5 +1,5 @@
 -- Slots of parameters, as they are made, found, filled and read.
-use Rattle.std.proofs.Common.{◌≡◌, ℕ, zero, suc, ◌+◌, ◌<◌, ◌≤◌, Bool, true, false, cond, refl, sym, ap, ◌∙◌, List, [], ◌∷◌, ◌++◌, length, map, get_or, set, None, Some, Ok, Err, arith, append_assoc, append-nil, add-one}
+use Rattle.std.proofs.Common.{◌≡◌, ℕ, zero, suc, ◌+◌, ◌<◌, ◌≤◌, Bool, true, false, cond, refl, sym, ap, ◌∙◌, List, [], ◌∷◌, ◌++◌, length, map, get_or, set, None, Some, Ok, Err, arith, append_assoc, add-one}
 use Rattle.std.specs.Prelude.{Option, Result}
 use Rattle.std.specs.List.{slice_get, position, position_from}
 use Rattle.std.specs.Option.{option_map, is_some}

@@ -1,4 +1,4 @@
-use Rattle.std.proofs.Common.{◌≡◌, ap, sym, ◌∙◌, map, get_or, refl, Some, None, Err, true, false}
+use Rattle.std.proofs.Common.{◌≡◌, ap, sym, ◌∙◌, map, refl, Some, None, Err, true, false}
 use Rattle.std.specs.Option.{is_some}
 use Rattle.rd_value.specs.Bind.{unknown, given_twice}
 use Rattle.rd_meaning.specs.Binding.{slot_of, place_of}

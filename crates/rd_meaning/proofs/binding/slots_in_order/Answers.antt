@@ -1,4 +1,4 @@
-use Rattle.std.proofs.Common.{rules, ◌≡◌, ◌+◌, ◌++◌, drop, map, length, refl, arith}
+use Rattle.std.proofs.Common.{rules, ◌≡◌, ◌+◌, drop, map, length, refl, arith}
 use Rattle.std.specs.List.{slice_get}
 use Rattle.rd_value.proofs.Walks.{item_first}
 use Rattle.rd_meaning.specs.Binding.{parameter_of, in_order}

@@ -1,4 +1,4 @@
-use Rattle.std.proofs.Common.{rules, ◌≡◌, length, sym, ◌∙◌, arith}
+use Rattle.std.proofs.Common.{rules, ◌≡◌, length, sym, ◌∙◌}
 use borrow.Author.Tests.{tests}
 use Rattle.rd_meaning.proofs.Repeating.{nothing_repeated}
 use Rattle.rd_meaning.proofs.repeat.repeated.Goals as goal
