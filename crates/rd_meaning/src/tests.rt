@@ -324,14 +324,26 @@ fn one_call(alloc: Global) -> Result<Expr, OutOfMemory> {
 }
 
 #[test]
-fn expands_lists(rt: HostRuntime) -> Result<(), OutOfMemory> {
+fn expands_an_empty_list(rt: HostRuntime) -> Result<(), OutOfMemory> {
     let alloc = rt.alloc();
     let none = Value::List(Values::new(alloc));
     let want = Expr::Val(Value::List(Values::new(alloc)));
     assert!(rt; expand_map(alloc, "g", &none) == Ok(want));
+    Ok(())
+}
+
+#[test]
+fn expands_a_list(rt: HostRuntime) -> Result<(), OutOfMemory> {
+    let alloc = rt.alloc();
     let one = Value::List(numbers(alloc, 1)?);
     let want = one_call(alloc)?;
     assert!(rt; expand_map(alloc, "g", &one) == Ok(want));
+    Ok(())
+}
+
+#[test]
+fn expands_no_number(rt: HostRuntime) -> Result<(), OutOfMemory> {
+    let alloc = rt.alloc();
     let want = type_error(alloc, "map_ needs a list", "")?;
     assert!(rt; expand_map(alloc, "g", &Value::Int(1)) == Err(want));
     Ok(())
