@@ -4,7 +4,7 @@ use crate::expand::{expand_catch, expand_map};
 use crate::step::StepError;
 use rd_base::{OutOfMemory, Text};
 use rd_value::class::Class;
-use rd_value::expr::{Expr, OpKind};
+use rd_value::expr::{Expr, Exprs, NamedExprs, OpKind};
 use rd_value::failure::Failure;
 use rd_value::signature::{Parameter, Parameters, Signature};
 use rd_value::value::{ErrorValue, Pairs, Value, Values};
@@ -291,32 +291,61 @@ fn binds_many_keywords(rt: HostRuntime) -> Result<(), OutOfMemory> {
     )
 }
 
+fn type_error(alloc: Global, text: &str, origin: &str) -> Result<StepError, OutOfMemory> {
+    Ok(StepError::Failed(Failure {
+        class: Class::TypeError,
+        text: Text::from_str(alloc, text)?,
+        origin: Text::from_str(alloc, origin)?,
+    }))
+}
+
 #[test]
 fn a_binding_fails_in_its_task(rt: HostRuntime) -> Result<(), OutOfMemory> {
     let alloc = rt.alloc();
-    match bound(alloc, 0, &[]) {
-        Err(StepError::Failed(failure)) => assert_eq!(rt; failure.origin.as_str(), "f"),
-        _ => assert!(rt; false),
-    }
+    let want = type_error(alloc, "missing argument a", "f")?;
+    assert!(rt; bound(alloc, 0, &[]) == Err(want));
+    Ok(())
+}
+
+/// The list that holds the call `g(10)`.
+fn one_call(alloc: Global) -> Result<Expr, OutOfMemory> {
+    let mut positional = Exprs::new(alloc);
+    positional.push(alloc, Expr::Val(Value::Int(10)))?;
+    let mut calls = Exprs::new(alloc);
+    calls.push(
+        alloc,
+        Expr::Call {
+            task: Text::from_str(alloc, "g")?,
+            positional,
+            keywords: NamedExprs::new(alloc),
+        },
+    )?;
+    Ok(Expr::ListOf(calls))
+}
+
+#[test]
+fn expands_an_empty_list(rt: HostRuntime) -> Result<(), OutOfMemory> {
+    let alloc = rt.alloc();
+    let none = Value::List(Values::new(alloc));
+    let want = Expr::Val(Value::List(Values::new(alloc)));
+    assert!(rt; expand_map(alloc, "g", &none) == Ok(want));
     Ok(())
 }
 
 #[test]
-fn expands_lists(rt: HostRuntime) -> Result<(), OutOfMemory> {
+fn expands_a_list(rt: HostRuntime) -> Result<(), OutOfMemory> {
     let alloc = rt.alloc();
-    let none = expand_map(alloc, "g", &Value::List(Values::new(alloc)));
-    assert!(rt; none == Ok(Expr::Val(Value::List(Values::new(alloc)))));
-    let list = Value::List(numbers(alloc, 3)?);
-    match expand_map(alloc, "g", &list) {
-        Ok(Expr::ListOf(calls)) => assert_eq!(rt; calls.len(), 3),
-        _ => assert!(rt; false),
-    }
-    match expand_map(alloc, "g", &Value::Int(1)) {
-        Err(StepError::Failed(failure)) => {
-            assert_eq!(rt; failure.text.as_str(), "map_ needs a list");
-        }
-        _ => assert!(rt; false),
-    }
+    let one = Value::List(numbers(alloc, 1)?);
+    let want = one_call(alloc)?;
+    assert!(rt; expand_map(alloc, "g", &one) == Ok(want));
+    Ok(())
+}
+
+#[test]
+fn expands_no_number(rt: HostRuntime) -> Result<(), OutOfMemory> {
+    let alloc = rt.alloc();
+    let want = type_error(alloc, "map_ needs a list", "")?;
+    assert!(rt; expand_map(alloc, "g", &Value::Int(1)) == Err(want));
     Ok(())
 }
 
