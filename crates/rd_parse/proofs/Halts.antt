@@ -1,10 +1,10 @@
 -- What each function of the parser adds to what its callees gave.
-use Rattle.std.proofs.Common.{◌≡◌, Bool, true, List, sym, ap, subst, ◌∙◌}
+use Rattle.std.proofs.Common.{◌≡◌, [], ◌∷◌, Result, Bool, true, List, sym, ap, subst, ◌∙◌}
 use Rattle.rd_syntax.specs.declared.token.Token.{Token}
 use Rattle.rd_parse.specs.declared.halt.Halt.{Halt}
 use Rattle.rd_parse.specs.declared.halt.Halt.TheVariants as halt
-use Rattle.rd_parse.specs.Reader.{Refused, Deep, Outcome, Reader, sees, and_then, read_many, onto}
-use Rattle.rd_parse.specs.Gives.{Fails}
+use Rattle.rd_parse.specs.Reader.{Refused, Deep, Outcome, Reader, sees, and_then, pure, read_many, onto}
+use Rattle.rd_parse.specs.Gives.{Fails, Gives}
 use Rattle.rd_parse.proofs.Loops.{Shrinks, plain_stops}
 
 pub fails_then : {A B : Type 0} (h : Halt) (r : Outcome Token A) (f : A → Reader Token B) → Fails h r → Fails h (and_then r f)
@@ -20,3 +20,7 @@ module _ {A : Type 0} (s : Token → Bool) (g : Reader Token A) (short : Shrinks
   plain_fails all ts halt.Memory total y e w = tt
   plain_fails all ts (halt.Refused r) total y e w = sym w ∙ plain_stops s g short all ts (Refused r.now) y e
   plain_fails all ts (halt.Deep r) total y e w = sym w ∙ plain_stops s g short all ts (Deep r.now) y e
+
+-- those that were read behind a first one
+pub behind_first : {X A : Type 0} (view : X → List A × List Token) (r : Result X Halt) (f : Reader Token (List A)) (a : A) (items : List A) (ts : List Token) → items ≡ a ∷ [] → Gives view r (onto items f ts) → Gives view r (and_then (f ts) (λ more. pure (a ∷ more)))
+behind_first {A = A} view r f a items ts e h = subst (λ (items : List A). Gives view r (onto items f ts)) e h

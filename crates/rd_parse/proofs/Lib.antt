@@ -27,3 +27,6 @@ pub mod Samples
 pub mod Steps
 pub mod Expressions
 pub mod Nested
+pub mod Inner
+pub mod Built
+pub mod Joining

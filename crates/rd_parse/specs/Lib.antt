@@ -13,3 +13,4 @@ pub mod Gives
 pub mod Terminal
 pub mod Expressions
 pub mod Reading
+pub mod Nests

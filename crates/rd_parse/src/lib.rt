@@ -2,10 +2,12 @@
 #![tactic(auto)]
 
 mod annotation;
+mod expression;
 mod halt;
 mod import;
 mod take;
 mod terminal;
+mod texts;
 pub mod tree;
 
 pub use halt::Halt;
