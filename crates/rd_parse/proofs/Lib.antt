@@ -20,6 +20,7 @@ pub mod Whole
 pub mod Loops
 pub mod Flat
 pub mod Halts
+pub mod Below
 pub mod Bound
 pub mod Pick
 pub mod Sets

@@ -1,5 +1,6 @@
 pub mod Modules
 pub mod ModuleReading
+pub mod Refusals
 pub mod Such
 pub mod Literals
 pub mod LiteralReading

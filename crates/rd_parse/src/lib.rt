@@ -3,11 +3,17 @@
 
 mod annotation;
 mod expression;
+mod function;
 mod halt;
 mod import;
+mod literal;
+mod module;
+mod parser;
+mod statement;
 mod take;
 mod terminal;
 mod texts;
 pub mod tree;
 
 pub use halt::Halt;
+pub use parser::{MAX_NESTING, parse};

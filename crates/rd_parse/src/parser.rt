@@ -1,0 +1,56 @@
+//! From tokens to modules.
+
+ghost use Rattle.std.specs.Prelude.{◌≡◌, IfOk};
+ghost use Rattle.rd_syntax.specs.Sources.{IfRefused, IsOrMemory};
+ghost use Rattle.rd_parse.specs.Modules.{IsModule};
+ghost use Rattle.rd_parse.specs.Refusals.{RefusedAt, last_line, line_at};
+ghost use Rattle.rd_parse.specs.declared.tree.Module.{Module};
+
+use crate::halt::Halt;
+use crate::module::whole;
+use crate::tree::Module;
+use rd_syntax::{SourceError, Token, Tokens};
+use std::alloc::Global;
+
+/// How many levels may be open at once.
+pub const MAX_NESTING: usize = 64;
+
+/// The line of the last token, or the first line where there is no token.
+fn last_line(tokens: &[Token]) -> u32
+    ensures { result ≡ last_line tokens.now }
+{
+    match tokens.last() {
+        Some(token) => token.line,
+        None => 1,
+    }
+}
+
+/// The refusal at the first of the tokens left.
+fn refusal(all: &[Token], left: &[Token]) -> SourceError
+    ensures { result ≡ Refused (line_at all.now left.now) }
+{
+    let line = match left.split_first() {
+        Some((token, _)) => token.line,
+        None => last_line(all),
+    };
+    SourceError::Refused { line }
+}
+
+/// The module that the tokens spell.
+pub fn parse(alloc: Global, tokens: &Tokens) -> Result<Module, SourceError>
+    // The tokens spell the module.
+    ensures found { IfOk result (λ m. IsModule tokens.now m) }
+
+    // A module that the tokens spell is read, unless memory runs out.
+    ensures only { (m : Module) → IsModule tokens.now m → IsOrMemory result m }
+
+    // A refusal is at the line of the first token that no module's tokens go on with, or that opens a level too many.
+    ensures line { IfRefused result (λ line. RefusedAt tokens.now line) }
+{
+    let all = tokens.as_slice();
+    match whole(alloc, MAX_NESTING, all) {
+        Ok((module, [])) => Ok(module),
+        Ok((_, left)) | Err(Halt::Refused(left) | Halt::Deep(left)) => Err(refusal(all, left)),
+        Err(Halt::Memory) => Err(SourceError::OutOfMemory),
+    }
+}
