@@ -11,16 +11,16 @@ use Rattle.rd_parse.proofs.module.parts.Goals as goal
 pub returns-in_err-next : goal.returns-in_err-next
 returns-in_err-next c =
     let p = err_from_is_err_and c.from_residual.result c.from_residual.ensures.1 in
-    rw (p.1, p.2) (plain_fails (among begins_part) (read_part c.args.depth) (part_short c.args.depth) c.loop-rest.all.items c.loop-rest.rest.now c.in_err-next.field-0.0 _
-    (sym c.begins_part.ensures ∙ c.loop-rest-test.true) c.in_err-next.ensures c.loop-rest.invariant)
+    rw (p.1, p.2) (plain_fails (among begins_part) (read_part c.args.depth) (part_short c.args.depth) c.loop-alloc.all.items c.loop-alloc.rest.now c.in_err-next.field-0.0 _
+    (sym c.begins_part.ensures ∙ c.loop-alloc-test.true) c.in_err-next.ensures c.loop-alloc.invariant)
 
-pub loop-rest-smaller : goal.loop-rest-smaller
-loop-rest-smaller c = part_short c.args.depth c.in_ok-next.next c.loop-rest.rest.now c.in_ok-next.after.now c.in_ok-next.ensures
+pub loop-alloc-smaller : goal.loop-alloc-smaller
+loop-alloc-smaller c = part_short c.args.depth c.in_ok-next.next c.loop-alloc.rest.now c.in_ok-next.after.now c.in_ok-next.ensures
 
-pub loop-rest-preserved : goal.loop-rest-preserved
-loop-rest-preserved c =
-    rw c.in_ok-push.ensures.items (sym (plain_goes_on (among begins_part) (read_part c.args.depth) (part_short c.args.depth) c.loop-rest.all.items c.loop-rest.rest.now c.in_ok-next.after.now c.in_ok-next.next
-    (sym c.begins_part.ensures ∙ c.loop-rest-test.true) c.in_ok-next.ensures) ∙ c.loop-rest.invariant)
+pub loop-alloc-preserved : goal.loop-alloc-preserved
+loop-alloc-preserved c =
+    rw c.in_ok-push.ensures.items (sym (plain_goes_on (among begins_part) (read_part c.args.depth) (part_short c.args.depth) c.loop-alloc.all.items c.loop-alloc.rest.now c.in_ok-next.after.now c.in_ok-next.next
+    (sym c.begins_part.ensures ∙ c.loop-alloc-test.true) c.in_ok-next.ensures) ∙ c.loop-alloc.invariant)
 
 pub returns : goal.returns
-returns c = sym c.loop-rest.invariant ∙ plain_done (among begins_part) (read_part c.args.depth) (part_short c.args.depth) c.loop-rest.all.items c.loop-rest.rest.now (sym c.begins_part.ensures ∙ c.loop-rest-test.false)
+returns c = sym c.loop-alloc.invariant ∙ plain_done (among begins_part) (read_part c.args.depth) (part_short c.args.depth) c.loop-alloc.all.items c.loop-alloc.rest.now (sym c.begins_part.ensures ∙ c.loop-alloc-test.false)
