@@ -5,6 +5,7 @@ mod annotation;
 mod expression;
 mod halt;
 mod import;
+mod literal;
 mod take;
 mod terminal;
 mod texts;
