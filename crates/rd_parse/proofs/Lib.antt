@@ -1,5 +1,7 @@
 pub mod Room
 pub mod InnerAnnotation
+pub mod InnerLiteral
+pub mod Keys
 pub mod Past
 pub mod WholeTexts
 pub mod Modules

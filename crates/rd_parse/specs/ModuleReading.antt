@@ -12,7 +12,8 @@ use Rattle.rd_parse.specs.declared.module.build.Part.TheVariants.{Silent, Namesp
 use Rattle.rd_parse.specs.Reader.{read_made, Reader, hits, ◌>>=◌, pure, read_one, read_either, read_many, read_opening, read_below, read_more, read_tail}
 use Rattle.rd_parse.specs.Noting.{read_past}
 use Rattle.rd_parse.specs.Terminal.{is, among, name_of, text_of}
-use Rattle.rd_parse.specs.LiteralReading.{read_literal, read_inner_literal, read_texts}
+use Rattle.rd_parse.specs.Reading.{read_texts}
+use Rattle.rd_parse.specs.LiteralReading.{read_literal, read_inner_literal}
 use Rattle.rd_parse.specs.StatementReading.{read_annotation, read_annotated, read_a_block}
 use Rattle.rd_parse.specs.Modules.{line_of, namespace_of, task_word, redun_word, defaulted, Head, at_line, function_of, module_of, begins_part}
 

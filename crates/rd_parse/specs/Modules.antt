@@ -13,7 +13,8 @@ use Rattle.rd_parse.specs.declared.module.build.Part.TheVariants.{Silent, Namesp
 use Rattle.rd_parse.specs.Form.{Form, ◌>>=◌, one, yields, either, many, opening, below, tail, more, IsText}
 use Rattle.rd_parse.specs.Reader.{is_there}
 use Rattle.rd_parse.specs.Terminal.{terminal, is, same, spells, name_of, this_word}
-use Rattle.rd_parse.specs.Literals.{literal, inner_literal, texts}
+use Rattle.rd_parse.specs.Expressions.{texts}
+use Rattle.rd_parse.specs.Literals.{literal, inner_literal}
 use Rattle.rd_parse.specs.Statements.{Command, annotation, annotated, a_block}
 
 -- ---- single tokens

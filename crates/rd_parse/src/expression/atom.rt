@@ -3,7 +3,6 @@
 ghost use Rattle.std.specs.Prelude.{◌≡◌};
 ghost use Rattle.rd_parse.specs.Gives.{Gives};
 ghost use Rattle.rd_parse.specs.Nests.{Nests};
-ghost use Rattle.rd_parse.specs.Expressions.{constant_of};
 ghost use Rattle.rd_parse.specs.Reading.{inner, read_atom, read_call, read_constant, read_group, read_named, read_number, read_text_literal};
 
 use crate::expression::arguments::Given;
@@ -11,7 +10,7 @@ use crate::expression::build::called;
 use crate::expression::nested::{Inner, Rule};
 use crate::expression::{Read, Tree};
 use crate::halt::Halt;
-use crate::take::{begins_with, expect, name, number, open};
+use crate::take::{begins_with, constant, expect, name, number, open};
 use crate::terminal::{Terminal, terminal_of};
 use crate::texts::texts;
 use crate::tree::Node;
@@ -35,28 +34,12 @@ fn text_literal<'a>(alloc: Global, tokens: &'a [Token]) -> Read<'a, Tree>
     Ok((Node::Lit(Value::Text(text)), rest))
 }
 
-fn constant_of(token: &Token) -> Option<Value>
-    ensures { result ≡ constant_of token.now }
-{
-    match terminal_of(token) {
-        Terminal::Nothing => Some(Value::Nothing),
-        Terminal::True => Some(Value::Bool(true)),
-        Terminal::False => Some(Value::Bool(false)),
-        _ => None,
-    }
-}
-
 #[tactic(auto, unfolding(crate::specs::Reading::read_constant))]
-fn constant<'a>(tokens: &'a [Token]) -> Read<'a, Tree>
+fn constant_literal<'a>(tokens: &'a [Token]) -> Read<'a, Tree>
     ensures { Gives (λ x. (x.0, x.1.now)) result (read_constant tokens.now) }
 {
-    match tokens.split_first() {
-        Some((token, rest)) => match constant_of(token) {
-            Some(value) => Ok((Node::Lit(value), rest)),
-            None => Err(Halt::Refused(tokens)),
-        },
-        None => Err(Halt::Refused(tokens)),
-    }
+    let (value, rest) = constant(tokens)?;
+    Ok((Node::Lit(value), rest))
 }
 
 impl<F: Fn(Global, Rule, usize, &[Token]) -> Result<(Tree, &[Token]), Halt<'_>>> Inner<F> {
@@ -70,7 +53,7 @@ impl<F: Fn(Global, Rule, usize, &[Token]) -> Result<(Tree, &[Token]), Halt<'_>>>
                 Terminal::Name => self.named(depth, tokens),
                 Terminal::Int => whole_number(tokens),
                 Terminal::Text => text_literal(self.alloc, tokens),
-                Terminal::Nothing | Terminal::True | Terminal::False => constant(tokens),
+                Terminal::Nothing | Terminal::True | Terminal::False => constant_literal(tokens),
                 Terminal::LeftParen => self.group(depth, tokens),
                 Terminal::LeftSquare => self.square(depth, tokens),
                 _ => self.curly(depth, tokens),
