@@ -9,6 +9,7 @@ use Rattle.rd_parse.specs.Literals.{Literal, literal_text, IsLiteral}
 use Rattle.rd_parse.specs.LiteralReading.{read_literal_text}
 use Rattle.rd_parse.specs.Modules.{module_form, IsModule}
 use Rattle.rd_parse.specs.ModuleReading.{read_module}
+use Rattle.rd_parse.specs.Refusals.{Sinks, Breaks}
 use Rattle.rd_parse.proofs.Laws.{got_value, got_rest}
 use Rattle.rd_parse.proofs.Whole.{text_found, text_only, one_value, text_refused, text_more, text_deep}
 use Rattle.rd_parse.proofs.Literals.{literal_text_lawful, literal_text_grows, literal_text_dives}
@@ -58,6 +59,16 @@ module_stops ts after m some e = text_more module_form read_module _ _ false mod
 -- where a module opens one level too many
 pub module_deep : (ts after : List Token) → read_module 64 ts ≡ Err (Deep after) → TooDeep module_form 64 ts after
 module_deep ts after e = text_deep module_form read_module _ _ false module_grows module_lawful spare (module_dives levels) ts after e
+
+-- where the tokens are refused
+pub module_sinks : (ts left : List Token) → read_module 64 ts ≡ Err (Deep left) → Sinks ts left
+module_sinks ts left e = record { reads = e; deep = module_deep ts left e }
+
+pub module_breaks : (ts left : List Token) → read_module 64 ts ≡ Err (Refused left) → Breaks ts left
+module_breaks ts left e = record { level = λ deep s. let no : read_module 64 ts ≡ Err (Deep deep) = s.reads in cc; stops = module_refused ts left e }
+
+pub module_behind : (ts left : List Token) (m : Module) → left ≢ [] → read_module 64 ts ≡ Ok (m, left) → Breaks ts left
+module_behind ts left m some e = record { level = λ deep s. let no : read_module 64 ts ≡ Err (Deep deep) = s.reads in cc; stops = module_stops ts left m some e }
 
 -- ---- literals
 

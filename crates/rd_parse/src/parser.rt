@@ -2,6 +2,7 @@
 
 ghost use Rattle.std.specs.Prelude.{◌≡◌, IfOk};
 ghost use Rattle.rd_syntax.specs.Sources.{IfRefused, IsOrMemory};
+ghost use Rattle.rd_syntax.specs.declared.source.SourceError.TheVariants.{Refused};
 ghost use Rattle.rd_parse.specs.Modules.{IsModule};
 ghost use Rattle.rd_parse.specs.Refusals.{RefusedAt, last_line, line_at};
 ghost use Rattle.rd_parse.specs.declared.tree.Module.{Module};
@@ -29,11 +30,12 @@ fn last_line(tokens: &[Token]) -> u32
 fn refusal(all: &[Token], left: &[Token]) -> SourceError
     ensures { result ≡ Refused (line_at all.now left.now) }
 {
-    let line = match left.split_first() {
-        Some((token, _)) => token.line,
-        None => last_line(all),
-    };
-    SourceError::Refused { line }
+    match left.split_first() {
+        Some((token, _)) => SourceError::Refused { line: token.line },
+        None => SourceError::Refused {
+            line: last_line(all),
+        },
+    }
 }
 
 /// The module that the tokens spell.
@@ -49,8 +51,15 @@ pub fn parse(alloc: Global, tokens: &Tokens) -> Result<Module, SourceError>
 {
     let all = tokens.as_slice();
     match whole(alloc, MAX_NESTING, all) {
-        Ok((module, [])) => Ok(module),
-        Ok((_, left)) | Err(Halt::Refused(left) | Halt::Deep(left)) => Err(refusal(all, left)),
+        Ok((module, rest)) => {
+            if rest.is_empty() {
+                Ok(module)
+            } else {
+                Err(refusal(all, rest))
+            }
+        }
         Err(Halt::Memory) => Err(SourceError::OutOfMemory),
+        Err(Halt::Refused(rest)) => Err(refusal(all, rest)),
+        Err(Halt::Deep(rest)) => Err(refusal(all, rest)),
     }
 }
