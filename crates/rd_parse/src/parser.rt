@@ -63,3 +63,6 @@ pub fn parse(alloc: Global, tokens: &Tokens) -> Result<Module, SourceError>
         Err(Halt::Deep(rest)) => Err(refusal(all, rest)),
     }
 }
+
+#[cfg(test)]
+mod tests;
