@@ -23,6 +23,7 @@ use Rattle.rd_parse.specs.LiteralReading as reader
 use Rattle.rd_parse.specs.LiteralReading.{any_new, has_number, has_negative, read_inner_literal, read_deep_literal}
 use Rattle.rd_parse.proofs.Laws.{Grows, Completes, Lawful, or_none}
 use Rattle.rd_parse.proofs.Depth.{opening_grows, below_grows, below_zero, below_suc, recast}
+use Rattle.rd_parse.proofs.Loops.{Shrinks, shrinks_of}
 use Rattle.rd_parse.proofs.More.{way}
 use Rattle.rd_parse.proofs.Rules.{Up}
 use Rattle.rd_parse.proofs.Sets.{holds_one, set}
@@ -453,6 +454,12 @@ pub inner_literal_laws : (n : ℕ) → Inner n
 unfolding inner_literal read_inner_literal
 inner_literal_laws zero = inner_zero
 inner_literal_laws (suc n) = from_outside n inner_literal read_inner_literal inner_up inner_some (deep_at n (inner_literal_laws n))
+
+pub inner_short : (n : ℕ) → Shrinks (read_inner_literal n)
+inner_short n = shrinks_of n inner_literal read_inner_literal _ _ (inner_literal_laws n).law
+
+pub pair_short : (n : ℕ) (keys : List Literal) → Shrinks (reader.read_pair n (read_inner_literal n) keys)
+pair_short n keys = shrinks_of n (λ m. form.pair m (inner_literal m) keys) (λ m. reader.read_pair m (read_inner_literal m) keys) _ _ ((pair_step On n inner_literal read_inner_literal (one_further n _ _ (λ j u. u) (inner_literal_laws n) inner_some no_literal) keys).rule.law inner_up)
 
 pub inner_literal_grows : Grows inner_literal
 inner_literal_grows = inner_up
