@@ -15,9 +15,8 @@ mod postfix;
 
 use crate::halt::Halt;
 use crate::tree::{Name, Node};
-use rd_syntax::Token;
-
 use nested::{Inner, Rule};
+use rd_syntax::Token;
 use std::alloc::Global;
 
 type Tree = Node<Name>;
@@ -33,7 +32,10 @@ fn rule<'a>(
 ) -> Result<(Tree, &'a [Token]), Halt<'a>>
     ensures { Gives (λ x. (x.0, x.1.now)) result (read_rule rule depth tokens.now) }
 {
-    let inner = Inner { alloc, read: self::rule };
+    let inner = Inner {
+        alloc,
+        read: self::rule,
+    };
     match rule {
         Rule::Expression => inner.expression(depth, tokens),
         Rule::Disjunction => inner.disjunction(depth, tokens),

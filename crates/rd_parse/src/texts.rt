@@ -23,7 +23,11 @@ pub fn begins_text(tokens: &[Token]) -> bool
 }
 
 /// The texts behind one that was read, joined to it.
-fn more_texts<'a>(alloc: Global, first: String, tokens: &'a [Token]) -> Result<(Text, &'a [Token]), Halt<'a>>
+fn more_texts<'a>(
+    alloc: Global,
+    first: String,
+    tokens: &'a [Token],
+) -> Result<(Text, &'a [Token]), Halt<'a>>
     ensures { Gives (λ x. (x.0, x.1.now)) result (read_more_texts (string_bytes first) tokens.now) }
 {
     let mut all = first;

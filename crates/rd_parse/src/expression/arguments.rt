@@ -125,7 +125,9 @@ impl<F: Fn(Global, Rule, usize, &[Token]) -> Result<(Tree, &[Token]), Halt<'_>>>
 
     /// What was read with the expressions behind it.
     #[tactic(auto, unfolding(crate::specs::Reading::read_more_expressions))]
-    pub fn more_expressions<'a>(&self, depth: usize,
+    pub fn more_expressions<'a>(
+        &self,
+        depth: usize,
         first: Tree,
         tokens: &'a [Token],
     ) -> Read<'a, Vec<Tree>>
@@ -139,7 +141,9 @@ impl<F: Fn(Global, Rule, usize, &[Token]) -> Result<(Tree, &[Token]), Halt<'_>>>
     }
 
     /// The expressions behind those that were read, each behind a comma. A comma may end them.
-    pub fn expressions_behind<'a>(&self, depth: usize,
+    pub fn expressions_behind<'a>(
+        &self,
+        depth: usize,
         mut all: Vec<Tree>,
         tokens: &'a [Token],
     ) -> Read<'a, Vec<Tree>>
@@ -182,10 +186,7 @@ impl<F: Fn(Global, Rule, usize, &[Token]) -> Result<(Tree, &[Token]), Halt<'_>>>
     }
 
     #[tactic(auto, unfolding(crate::specs::Reading::read_argument))]
-    pub fn argument<'a>(&self, depth: usize,
-        keywords: bool,
-        tokens: &'a [Token],
-    ) -> Read<'a, Given>
+    pub fn argument<'a>(&self, depth: usize, keywords: bool, tokens: &'a [Token]) -> Read<'a, Given>
         requires inner { Nests depth (F.pre self.now.read) (F.post self.now.read) }
         requires open { 0 < depth }
         ensures { Gives (λ x. (x.0, x.1.now)) result (read_argument depth (inner depth) keywords tokens.now) }
@@ -199,9 +200,7 @@ impl<F: Fn(Global, Rule, usize, &[Token]) -> Result<(Tree, &[Token]), Halt<'_>>>
 
     /// Arguments with commas between them, or none.
     #[tactic(auto, unfolding(crate::specs::Reading::read_arguments))]
-    pub fn arguments<'a>(&self, depth: usize,
-        tokens: &'a [Token],
-    ) -> Read<'a, Vec<Given>>
+    pub fn arguments<'a>(&self, depth: usize, tokens: &'a [Token]) -> Read<'a, Vec<Given>>
         requires inner { Nests depth (F.pre self.now.read) (F.post self.now.read) }
         requires open { 0 < depth }
         ensures { Gives (λ x. (x.0.items, x.1.now)) result (read_arguments depth (inner depth) tokens.now) }
@@ -215,7 +214,9 @@ impl<F: Fn(Global, Rule, usize, &[Token]) -> Result<(Tree, &[Token]), Halt<'_>>>
 
     /// What was read with the arguments behind it.
     #[tactic(auto, unfolding(crate::specs::Reading::read_more_arguments))]
-    pub fn more_arguments<'a>(&self, depth: usize,
+    pub fn more_arguments<'a>(
+        &self,
+        depth: usize,
         first: Given,
         tokens: &'a [Token],
     ) -> Read<'a, Vec<Given>>
@@ -230,7 +231,9 @@ impl<F: Fn(Global, Rule, usize, &[Token]) -> Result<(Tree, &[Token]), Halt<'_>>>
     }
 
     /// The arguments behind those that were read, each behind a comma. A comma may end them.
-    pub fn arguments_behind<'a>(&self, depth: usize,
+    pub fn arguments_behind<'a>(
+        &self,
+        depth: usize,
         keywords: bool,
         mut all: Vec<Given>,
         tokens: &'a [Token],

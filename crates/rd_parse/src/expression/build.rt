@@ -12,11 +12,7 @@ use std::alloc::Global;
 
 /// One operand alone, or a chain.
 #[tactic(auto, using(crate::proofs::Built::chain_alone, crate::proofs::Built::chain_of))]
-pub fn chained(
-    alloc: Global,
-    first: Tree,
-    rest: Vec<(Operator, Tree)>,
-) -> Result<Tree, OutOfMemory>
+pub fn chained(alloc: Global, first: Tree, rest: Vec<(Operator, Tree)>) -> Result<Tree, OutOfMemory>
     ensures { IfOk result (λ e. e ≡ chained first rest.items) }
 {
     if rest.is_empty() {
@@ -70,11 +66,7 @@ pub fn cond(alloc: Global, first: Tree, choice: (Tree, Tree)) -> Result<Tree, Ou
     })
 }
 
-pub fn compared(
-    alloc: Global,
-    left: Tree,
-    side: (Comparison, Tree),
-) -> Result<Tree, OutOfMemory>
+pub fn compared(alloc: Global, left: Tree, side: (Comparison, Tree)) -> Result<Tree, OutOfMemory>
     ensures { IfOk result (λ e. e ≡ node.Compare side.0 left side.1) }
 {
     Ok(Node::Compare {

@@ -140,7 +140,9 @@ impl<F: Fn(Global, Rule, usize, &[Token]) -> Result<(Tree, &[Token]), Halt<'_>>>
 
     /// What was read with the pairs behind it.
     #[tactic(auto, unfolding(crate::specs::Reading::read_more_pairs))]
-    pub fn more_pairs<'a>(&self, depth: usize,
+    pub fn more_pairs<'a>(
+        &self,
+        depth: usize,
         first: (Tree, Tree),
         tokens: &'a [Token],
     ) -> Read<'a, Vec<(Tree, Tree)>>
@@ -154,7 +156,9 @@ impl<F: Fn(Global, Rule, usize, &[Token]) -> Result<(Tree, &[Token]), Halt<'_>>>
     }
 
     /// The pairs behind those that were read, each behind a comma. A comma may end them.
-    pub fn pairs_behind<'a>(&self, depth: usize,
+    pub fn pairs_behind<'a>(
+        &self,
+        depth: usize,
         mut all: Vec<(Tree, Tree)>,
         tokens: &'a [Token],
     ) -> Read<'a, Vec<(Tree, Tree)>>

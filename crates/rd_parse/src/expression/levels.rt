@@ -289,7 +289,9 @@ impl<F: Fn(Global, Rule, usize, &[Token]) -> Result<(Tree, &[Token]), Halt<'_>>>
         Ok((chained(self.alloc, first, more)?, rest))
     }
 
-    pub fn sum_links<'a>(&self, depth: usize,
+    pub fn sum_links<'a>(
+        &self,
+        depth: usize,
         tokens: &'a [Token],
     ) -> Read<'a, Vec<(Operator, Tree)>>
         requires { Nests depth (F.pre self.now.read) (F.post self.now.read) }
@@ -325,7 +327,9 @@ impl<F: Fn(Global, Rule, usize, &[Token]) -> Result<(Tree, &[Token]), Halt<'_>>>
         Ok((chained(self.alloc, first, more)?, rest))
     }
 
-    pub fn term_links<'a>(&self, depth: usize,
+    pub fn term_links<'a>(
+        &self,
+        depth: usize,
         tokens: &'a [Token],
     ) -> Read<'a, Vec<(Operator, Tree)>>
         requires { Nests depth (F.pre self.now.read) (F.post self.now.read) }

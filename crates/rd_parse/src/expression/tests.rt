@@ -153,7 +153,10 @@ fn show(alloc: Global, tree: &Tree) -> Result<String, AllocError> {
             let element = show(alloc, element.get())?;
             let iterable = show(alloc, iterable.get())?;
             let condition = all(alloc, "if", condition.as_slice())?;
-            format!(in alloc; "(comp {element} {} {iterable} {condition})", name.text.as_str())
+            format!(in alloc;
+                "(comp {element} {} {iterable} {condition})",
+                name.text.as_str()
+            )
         }
     }
 }
@@ -161,9 +164,7 @@ fn show(alloc: Global, tree: &Tree) -> Result<String, AllocError> {
 /// The line and the text of the first token.
 fn place(alloc: Global, word: &str, tokens: &[Token]) -> Result<String, AllocError> {
     match tokens.split_first() {
-        Some((token, _)) => {
-            format!(in alloc; "{word} {} {}", token.line, token.text.as_str())
-        }
+        Some((token, _)) => { format!(in alloc; "{word} {} {}", token.line, token.text.as_str()) }
         None => format!(in alloc; "{word} at the end"),
     }
 }
@@ -220,10 +221,16 @@ const TABLE: [(&str, &str); 74] = [
     ("[1, 2,]", "(list 1 2) 1 "),
     ("[,]", "refused 1 ,"),
     ("[a for a in b]", "(comp a1 a b1 (if)) 1 "),
-    ("[a for a in b if c or d]", "(comp a1 a b1 (if (or c1 d1))) 1 "),
+    (
+        "[a for a in b if c or d]",
+        "(comp a1 a b1 (if (or c1 d1))) 1 ",
+    ),
     ("[a for a in b if c if d]", "refused 1 if"),
     ("[a, b for a in c]", "refused 1 for"),
-    ("[a if b else c for a in d]", "(comp (if b1 a1 c1) a d1 (if)) 1 "),
+    (
+        "[a if b else c for a in d]",
+        "(comp (if b1 a1 c1) a d1 (if)) 1 ",
+    ),
     ("[a for a in b if c else d]", "refused 1 else"),
     ("{}", "(dict) 1 "),
     ("{1: a, 'b': 2,}", "(dict 1: a1 'b': 2) 1 "),
