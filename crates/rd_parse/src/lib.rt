@@ -12,3 +12,4 @@ mod texts;
 pub mod tree;
 
 pub use halt::Halt;
+pub use literal::parse_literal;
