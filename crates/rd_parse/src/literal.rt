@@ -155,8 +155,8 @@ fn key<'a>(alloc: Global, depth: usize, keys: &mut Keys, tokens: &'a [Token]) ->
     ensures gives { Gives (λ x. (x.0, x.1.now)) result (read_key keys.old.keys depth tokens.now) }
     ensures added { IfOk result (λ x. keys.new.keys ≡ keys.old.keys ++ x.0 ∷ []) }
 {
-    // Not all numbers are keys, nor all negative ones.
-    prove!(keys.len() <= 9_223_372_036_854_775_807);
+    // There are more numbers than keys, so that some number is new.
+    prove!(keys.len() <= i64::MAX as usize);
     if begins_with(tokens, Terminal::Int) {
         return number_key(keys, tokens);
     }
@@ -199,7 +199,7 @@ pub fn deep_literal<'a>(alloc: Global, depth: usize, tokens: &'a [Token]) -> Rea
 
 /// A literal one level further in.
 #[cycle(literal)]
-#[tactic(auto, using(crate::proofs::InnerLiteral::literal_below, crate::proofs::InnerLiteral::literal_shut))]
+#[tactic(auto, unfolding(crate::specs::LiteralReading::read_inner_literal))]
 pub fn inner_literal<'a>(alloc: Global, depth: usize, tokens: &'a [Token]) -> Read<'a, Value>
     ensures { Gives (λ x. (x.0, x.1.now)) result (read_inner_literal depth tokens.now) }
 {
