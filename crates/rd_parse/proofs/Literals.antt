@@ -28,7 +28,7 @@ use Rattle.rd_parse.proofs.More.{way}
 use Rattle.rd_parse.proofs.Rules.{Up}
 use Rattle.rd_parse.proofs.Sets.{holds_one, set}
 use Rattle.rd_parse.proofs.Samples.{sample, example}
-use Rattle.rd_parse.proofs.Steps.{Step, Inward, settled, one_further, from_outside, opens_then, wide, carries, takes, makes, then, chooses, each, tests, commas, commas_by}
+use Rattle.rd_parse.proofs.Steps.{Step, Inward, settled, one_further, from_outside, opens_then, wide, carries, takes, makes, then, chooses, tests, commas, commas_by}
 use Rattle.rd_parse.proofs.Expressions.{text_is, texts_step, number_within}
 use Rattle.rd_parse.proofs.Numbers.{spelling, number_small}
 use Rattle.rd_parse.proofs.Such.{such_lawful}

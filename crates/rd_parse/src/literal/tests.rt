@@ -59,7 +59,10 @@ const TABLE: [(&str, &str); 52] = [
     ("{,}", "none"),
     ("{1}", "none"),
     ("{1: 2, 3}", "none"),
-    ("{'b': 1, 'a': [2], -1: {1: 2}}", "{'b': 1, 'a': [2], -1: {1: 2}}"),
+    (
+        "{'b': 1, 'a': [2], -1: {1: 2}}",
+        "{'b': 1, 'a': [2], -1: {1: 2}}",
+    ),
     ("{1: 2, 1: 3}", "none"),
     ("{1: 2, -1: 3, '1': 4}", "{1: 2, -1: 3, '1': 4}"),
     ("{-1: 2, -1: 3}", "none"),
@@ -111,7 +114,11 @@ fn levels_are_counted(rt: HostRuntime) -> Result<(), Fail> {
     for (count, middle, spelled) in NESTED {
         let text = nested(rt.alloc(), count, middle)?;
         let shown = value(rt.alloc(), text.as_str())?;
-        assert_eq!(rt; shown.as_str() != "none", spelled, "{count} around {middle}");
+        assert_eq!(rt;
+            shown.as_str() != "none",
+            spelled,
+            "{count} around {middle}"
+        );
     }
     Ok(())
 }
