@@ -1,15 +1,11 @@
 -- The readers one level further in, where one more level may be open.
-use Rattle.std.proofs.Common.{◌≡◌, ℕ, zero, suc, ◌-◌, ◌<◌, ◌≤◌, true, false, Ok, Result, List, refl, sym, ap, ◌∙◌, arith}
-use Rattle.std.specs.declared.alloc.Global.{Global}
-use denote.Bor.{Bor}
+use Rattle.std.proofs.Common.{◌≡◌, ℕ, zero, suc, ◌-◌, ◌<◌, true, false, Ok, List, refl, sym, ap, ◌∙◌, arith}
 use Rattle.rd_syntax.specs.declared.token.Token.{Token}
 use Rattle.rd_parse.specs.declared.expression.build.Part.{Part}
-use Rattle.rd_parse.specs.declared.expression.nested.Rule.{Rule}
 use Rattle.rd_parse.specs.declared.halt.Halt.{Halt}
 use Rattle.rd_parse.specs.Reader.{Outcome, sees, and_then}
 use Rattle.rd_parse.specs.Terminal.{among}
 use Rattle.rd_parse.specs.Gives.{Fails}
-use Rattle.rd_parse.specs.Nests.{Nests}
 use Rattle.rd_parse.specs.Expressions.{Tree, begins_part, with_part}
 use Rattle.rd_parse.specs.Reading.{inner, read_conditional, read_disjunction, read_inversion, read_factor, read_part, read_parts}
 use Rattle.rd_parse.proofs.More.{by_true, by_false}
@@ -42,10 +38,6 @@ pub parts_below : (n : ℕ) (e : Tree) (ts : List Token) → 0 < n → (inner n)
 unfolding inner
 parts_below zero e ts h = absurd (omega arith)
 parts_below (suc n) e ts h = ap (λ k. read_parts k (inner k) e ts) (one_less n)
-
--- a function that reads where so many levels may be open reads where fewer may
-pub nests_below : (m n : ℕ) (pre : Global → Rule → ℕ → Bor (List Token) → Type 0) (post : Global → Rule → ℕ → Bor (List Token) → Result (Tree × Bor (List Token)) Halt → Type 0) → m ≤ n → Nests n pre post → Nests m pre post
-nests_below m n pre post fewer l = record { callable = λ alloc r k ts less. l.callable alloc r k ts (omega arith); reads = λ alloc r k ts x less. l.reads alloc r k ts x (omega arith) }
 
 -- ---- the parts, as a loop reads them
 

@@ -1,18 +1,15 @@
 -- What a set of keys tells of a key.
-use Rattle.std.proofs.Common.{◌≡◌, ℕ, zero, suc, ◌-◌, ◌<◌, ℤ, Bool, true, false, not, ◌||◌, cond, List, [], ◌∷◌, Option, Some, None, Ok, Err, refl, sym, ap, ◌∙◌, arith}
+use Rattle.std.proofs.Common.{◌≡◌, ℕ, ℤ, Bool, true, false, not, List, [], ◌∷◌, Option, Some, None, Ok, Err, refl, sym, ap, ◌∙◌}
 use Rattle.std.specs.Bool.{Decides}
 use Rattle.std.specs.List.{list_any}
-use Rattle.std.specs.Ordering.{int_eq}
-use Rattle.std.specs.Str.{bytes_eq}
 use Rattle.std.proofs.lemmas.Bool.Decides.{same_from_decides, Decides-int_eq}
 use Rattle.std.proofs.lemmas.Slice.Eq.{bytes_eq-Decides}
 use Rattle.rd_syntax.specs.declared.token.Token.{Token}
 use Rattle.rd_value.specs.declared.value.Datum.TheVariants as value
 use Rattle.rd_value.proofs.Deciding.{value_same, value_decides}
-use Rattle.rd_parse.specs.Reader.{Reader, Refused, Deep, took, read_one, read_below}
+use Rattle.rd_parse.specs.Reader.{Refused, took, read_one}
 use Rattle.rd_parse.specs.Literals.{Literal, is_number, is_text, any_of, new_number, new_text, only_if}
-use Rattle.rd_parse.specs.LiteralReading.{read_key}
-use Rattle.rd_parse.proofs.Laws.{got, got_value, got_rest}
+use Rattle.rd_parse.proofs.Laws.{got_value, got_rest}
 
 number_decides : (z : ℤ) (k : Literal) → Decides (is_number z k) (value.Int z ≡ k)
 number_decides z (value.Int y) = let d = Decides-int_eq z y in (λ h. ap value.Int (d.0 h), λ e. d.1 cc)
@@ -52,12 +49,3 @@ module _ {A : Type 0} (ok : A → Bool) where
     pub only_refused : (ts rest : List Token) (a : A) → read_one o ts ≡ Ok (a, rest) → ok a ≡ false → read_one (λ t. only_if ok (o t)) ts ≡ Err (Refused ts)
     only_refused [] rest a e n = absurd cc
     only_refused (t ∷ ts) rest a e n = refused_by (t ∷ ts) ts rest a (o t) e n
-
--- ---- one level further in
-
-one_less : (n : ℕ) → n ≡ suc n - 1
-one_less n = omega arith
-
-pub key_below : (keys : List Literal) (n : ℕ) (ts : List Token) → 0 < n → read_below (read_key keys) n ts ≡ read_key keys (n - 1) ts
-key_below keys zero ts h = absurd (omega arith)
-key_below keys (suc n) ts h = ap (λ k. read_key keys k ts) (one_less n)

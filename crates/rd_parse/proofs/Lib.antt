@@ -1,6 +1,5 @@
 pub mod Room
 pub mod InnerAnnotation
-pub mod InnerLiteral
 pub mod Keys
 pub mod Past
 pub mod WholeTexts

@@ -14,8 +14,8 @@ use Rattle.rd_parse.specs.Form.{Form, one, many, either, below}
 use Rattle.rd_parse.specs.Reader.{Reader, read_one, read_below, hits, is_there}
 use Rattle.rd_parse.specs.Such.{such, read_such}
 use Rattle.rd_parse.specs.Terminal.{terminal, among, is, greatest, number_of, text_of}
-use Rattle.rd_parse.specs.Expressions.{joined, more_texts, texts, constant_of}
-use Rattle.rd_parse.specs.Reading.{read_more_texts, read_texts}
+use Rattle.rd_parse.specs.Expressions.{joined, texts, constant_of}
+use Rattle.rd_parse.specs.Reading.{read_texts}
 use Rattle.rd_parse.specs.Expressions as expression
 use Rattle.rd_parse.specs.Literals as form
 use Rattle.rd_parse.specs.Literals.{Literal, Pair, is_number, is_text, any_of, new_number, new_text, only_if, number_key_of, negative_key_of, with_key, begins_literal, begins_plain, begins_key, inner_literal, deep_literal}
@@ -23,12 +23,13 @@ use Rattle.rd_parse.specs.LiteralReading as reader
 use Rattle.rd_parse.specs.LiteralReading.{any_new, has_number, has_negative, read_inner_literal, read_deep_literal}
 use Rattle.rd_parse.proofs.Laws.{Grows, Completes, Lawful, or_none}
 use Rattle.rd_parse.proofs.Depth.{opening_grows, below_grows, below_zero, below_suc, recast}
+use Rattle.rd_parse.proofs.Loops.{Shrinks, shrinks_of}
 use Rattle.rd_parse.proofs.More.{way}
 use Rattle.rd_parse.proofs.Rules.{Up}
 use Rattle.rd_parse.proofs.Sets.{holds_one, set}
 use Rattle.rd_parse.proofs.Samples.{sample, example}
-use Rattle.rd_parse.proofs.Steps.{Step, Inward, settled, one_further, from_outside, opens_then, wide, carries, takes, makes, then, chooses, each, tests, commas, commas_by}
-use Rattle.rd_parse.proofs.Expressions.{text_is, number_within}
+use Rattle.rd_parse.proofs.Steps.{Step, Inward, settled, one_further, from_outside, opens_then, wide, carries, takes, makes, then, chooses, tests, commas, commas_by}
+use Rattle.rd_parse.proofs.Expressions.{text_is, texts_step, number_within}
 use Rattle.rd_parse.proofs.Numbers.{spelling, number_small}
 use Rattle.rd_parse.proofs.Such.{such_lawful}
 use Rattle.rd_parse.proofs.Dive.{Plain, Below, Brief, brief_some, Dives, nothing_below, below_dives, such_dives, recast_dives}
@@ -85,10 +86,6 @@ pub constant_there : constant_of (example w.Nothing) ≡ Some value.Nothing
 unfolding terminal
 constant_there = refl
 
-text_there : text_of (example w.Text) ≡ Some []
-unfolding terminal
-text_there = refl
-
 number_there : number_of (example w.Int) ≡ Some (pos 0)
 unfolding terminal
 number_there = refl
@@ -96,23 +93,12 @@ number_there = refl
 -- ---- plain literals
 
 module _ (U : ℕ → Type 0) (n : ℕ) where
-  text_token : Step U n (λ _. one text_of) (λ _. read_one text_of) (w.Text ∷ []) [] false
-  text_token = carries U n text_of (w.Text ∷ []) refl (example w.Text) _ text_there (λ t h. text_is t ∙ h)
-
   number_token : Step U n (λ _. one number_of) (λ _. read_one number_of) (w.Int ∷ []) [] false
   number_token = carries U n number_of (w.Int ∷ []) refl (example w.Int) _ number_there number_within
 
-  more_texts_step : (t : List ℕ) → Step U n (λ _. more_texts t) (λ _. read_more_texts t) (w.Text ∷ []) (w.Text ∷ []) true
-  unfolding read_more_texts
-  more_texts_step t = then refl (each (hits text_of) text_is refl text_token) (λ more. makes U n (t ++ joined more))
-
-  pub texts_step : Step U n (λ _. texts) (λ _. read_texts) (w.Text ∷ []) (w.Text ∷ []) false
-  unfolding read_texts
-  texts_step = then refl text_token (λ t. more_texts_step t)
-
   text_step : Step U n (λ _. form.text) (λ _. reader.read_text) (w.Text ∷ []) (w.Text ∷ []) false
   unfolding reader.read_text
-  text_step = then refl texts_step (λ t. makes U n (value.Text t))
+  text_step = then refl (texts_step U n) (λ t. makes U n (value.Text t))
 
   number_step : Step U n (λ _. form.number) (λ _. reader.read_number) (w.Int ∷ []) [] false
   unfolding reader.read_number
@@ -453,6 +439,12 @@ pub inner_literal_laws : (n : ℕ) → Inner n
 unfolding inner_literal read_inner_literal
 inner_literal_laws zero = inner_zero
 inner_literal_laws (suc n) = from_outside n inner_literal read_inner_literal inner_up inner_some (deep_at n (inner_literal_laws n))
+
+pub inner_short : (n : ℕ) → Shrinks (read_inner_literal n)
+inner_short n = shrinks_of n inner_literal read_inner_literal _ _ (inner_literal_laws n).law
+
+pub pair_short : (n : ℕ) (keys : List Literal) → Shrinks (reader.read_pair n (read_inner_literal n) keys)
+pair_short n keys = shrinks_of n (λ m. form.pair m (inner_literal m) keys) (λ m. reader.read_pair m (read_inner_literal m) keys) _ _ ((pair_step On n inner_literal read_inner_literal (one_further n _ _ (λ j u. u) (inner_literal_laws n) inner_some no_literal) keys).rule.law inner_up)
 
 pub inner_literal_grows : Grows inner_literal
 inner_literal_grows = inner_up

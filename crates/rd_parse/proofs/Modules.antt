@@ -27,8 +27,8 @@ use Rattle.rd_parse.proofs.Dive.{Brief, Dives, below_dives}
 use Rattle.rd_parse.proofs.Sets.{holds_one, holds_same, set}
 use Rattle.rd_parse.proofs.Samples.{sample, example}
 use Rattle.rd_parse.proofs.Steps.{Step, Inward, settled, one_further, opens_then, wide, carries, takes, makes, then, chooses, each, tests, commas, commas_by}
-use Rattle.rd_parse.proofs.Expressions.{name_is, text_is, name_there}
-use Rattle.rd_parse.proofs.Literals.{literal_first, plain_first, literal_step, constant_there, texts_step, inner_literal_laws, inner_some, no_literal, inner_literal_grows}
+use Rattle.rd_parse.proofs.Expressions.{name_is, text_is, name_there, texts_step}
+use Rattle.rd_parse.proofs.Literals.{literal_first, plain_first, literal_step, constant_there, inner_literal_laws, inner_some, no_literal, inner_literal_grows}
 use Rattle.rd_parse.proofs.Statements.{part_first, annotation_more, annotation_lawful, annotation_dives, annotation_brief, annotation_plain, annotation_grows, annotated_step, block_lawful, block_dives, block_brief, block_plain, block_grows}
 
 -- ---- single tokens

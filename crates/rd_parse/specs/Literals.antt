@@ -1,11 +1,13 @@
 -- The grammar of literal values. A number says how many levels may be open.
-use Rattle.std.specs.Prelude.{ℤ, neg_ℤ, ℕ, zero, suc, List, [], ◌∷◌, ◌++◌, Option, Some, None, Bool, true, false, not, ◌||◌, if◌then◌else◌}
+use Rattle.std.specs.Prelude.{◌≡◌, ℤ, neg_ℤ, ℕ, zero, suc, List, [], ◌∷◌, ◌++◌, Option, Some, None, Bool, true, false, not, ◌||◌, if◌then◌else◌}
 use Rattle.std.specs.Ordering.{int_eq}
 use Rattle.std.specs.Str.{bytes_eq}
 use Rattle.rd_syntax.specs.declared.token.Token.{Token}
 use Rattle.rd_value.specs.declared.value.FileValue.{FileValue}
 use Rattle.rd_value.specs.declared.value.Datum.{Datum}
 use Rattle.rd_value.specs.declared.value.Datum.TheVariants as value
+use Rattle.rd_value.specs.Limits.{is_within}
+use Rattle.rd_syntax.specs.Sources.{Lexes}
 use Rattle.rd_parse.specs.declared.terminal.Terminal.{Terminal}
 use Rattle.rd_parse.specs.declared.terminal.Terminal.TheVariants as w
 use Rattle.rd_parse.specs.Form.{Form, ◌>>=◌, one, yields, either, never, opening, below, tail, more, IsText}
@@ -175,3 +177,10 @@ literal_text n = do v ← deep_literal n; u ← one (is w.Newline); x ← one (i
 -- the tokens spell the literal alone, and no more than 64 levels are open anywhere in it
 unfoldable pub IsLiteral : List Token → Literal → Type 0
 IsLiteral ts v = IsText literal_text 64 v ts
+
+-- The text spells the value alone, and the value is within the limits of a value.
+pub record Spells (text : List ℕ) (v : Literal) : Type 0 where
+  pub tokens : List Token
+  pub lexes : Lexes text tokens
+  pub literal : IsLiteral tokens v
+  pub within : is_within (λ f. f) v ≡ true

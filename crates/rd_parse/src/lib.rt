@@ -16,4 +16,5 @@ mod texts;
 pub mod tree;
 
 pub use halt::Halt;
+pub use literal::parse_literal;
 pub use parser::{MAX_NESTING, parse};

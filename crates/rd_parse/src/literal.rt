@@ -1,21 +1,22 @@
 //! Literal values. `depth` is how many levels may be open.
 
-ghost use Rattle.std.specs.Prelude.{◌≡◌, ◌++◌, ◌∷◌, [], IfOk};
+ghost use Rattle.std.specs.Prelude.{◌≡◌, ◌++◌, ◌∷◌, [], true, IfOk, IfSome, IfNone};
+ghost use Rattle.rd_value.specs.Limits.{is_within};
 ghost use Rattle.rd_parse.specs.declared.terminal.Terminal.TheVariants as w;
 ghost use Rattle.rd_parse.specs.Reader.{onto, read_below, read_more, sees};
 ghost use Rattle.rd_parse.specs.Terminal.{among, is};
 ghost use Rattle.rd_parse.specs.Gives.{Gives};
-ghost use Rattle.rd_parse.specs.Literals.{begins_key, begins_literal, begins_plain, with_key};
+ghost use Rattle.rd_parse.specs.Literals.{begins_key, begins_literal, begins_plain, with_key, IsLiteral, Literal, Spells};
 ghost use Rattle.rd_parse.specs.LiteralReading.{read_curly, read_deep_literal, read_inner_literal, read_items, read_key, read_literal, read_literal_text, read_more_items, read_more_pairs, read_negative, read_negative_key, read_number, read_number_key, read_pair, read_pairs, read_pairs_from, read_square, read_text, read_text_key};
 
 use crate::expression::Read;
 use crate::halt::Halt;
-use crate::take::{after, begins_with, constant, expect, number, open};
+use crate::take::{LEVELS, after, begins_with, constant, expect, number, open};
 use crate::terminal::{Terminal, terminal_of};
 use crate::texts::texts;
 use indexmap::IndexSet;
-use rd_base::{Copies, Items};
-use rd_syntax::Token;
+use rd_base::{Copies, Items, OutOfMemory};
+use rd_syntax::{SourceError, Token, lex};
 use rd_value::value::Value;
 use std::alloc::Global;
 
@@ -154,8 +155,8 @@ fn key<'a>(alloc: Global, depth: usize, keys: &mut Keys, tokens: &'a [Token]) ->
     ensures gives { Gives (λ x. (x.0, x.1.now)) result (read_key keys.old.keys depth tokens.now) }
     ensures added { IfOk result (λ x. keys.new.keys ≡ keys.old.keys ++ x.0 ∷ []) }
 {
-    // Not all numbers are keys, nor all negative ones.
-    prove!(keys.len() <= 9_223_372_036_854_775_807);
+    // There are more numbers than keys, so that some number is new.
+    prove!(keys.len() <= i64::MAX as usize);
     if begins_with(tokens, Terminal::Int) {
         return number_key(keys, tokens);
     }
@@ -198,7 +199,7 @@ pub fn deep_literal<'a>(alloc: Global, depth: usize, tokens: &'a [Token]) -> Rea
 
 /// A literal one level further in.
 #[cycle(literal)]
-#[tactic(auto, using(crate::proofs::InnerLiteral::literal_below, crate::proofs::InnerLiteral::literal_shut))]
+#[tactic(auto, unfolding(crate::specs::LiteralReading::read_inner_literal))]
 pub fn inner_literal<'a>(alloc: Global, depth: usize, tokens: &'a [Token]) -> Read<'a, Value>
     ensures { Gives (λ x. (x.0, x.1.now)) result (read_inner_literal depth tokens.now) }
 {
@@ -358,3 +359,39 @@ pub fn literal_text<'a>(alloc: Global, depth: usize, tokens: &'a [Token]) -> Rea
     let rest = expect(rest, Terminal::Newline)?;
     Ok((value, expect(rest, Terminal::End)?))
 }
+
+/// The value that the tokens spell, if it is within the limits of a value.
+fn value_of(alloc: Global, tokens: &[Token]) -> Result<Option<Value>, OutOfMemory>
+    ensures found { IfOk result (λ o. IfSome o (λ v. IsLiteral tokens.now v × (is_within (λ f. f) v ≡ true))) }
+    ensures only { IfOk result (λ o. IfNone o ((v : Literal) → IsLiteral tokens.now v → is_within (λ f. f) v ≡ true → ⊥)) }
+{
+    let (value, rest) = match literal_text(alloc, LEVELS, tokens) {
+        Ok(read) => read,
+        Err(Halt::Memory) => return Err(OutOfMemory),
+        Err(Halt::Refused(_)) => return Ok(None),
+        Err(Halt::Deep(_)) => return Ok(None),
+    };
+    if rest.is_empty() && value.within() {
+        Ok(Some(value))
+    } else {
+        Ok(None)
+    }
+}
+
+/// The value that a text spells as a literal.
+pub fn parse_literal(alloc: Global, text: &str) -> Result<Option<Value>, OutOfMemory>
+    // The text spells the value.
+    ensures found { IfOk result (λ o. IfSome o (Spells text.now)) }
+
+    // Where there is none, the text spells no value.
+    ensures only { IfOk result (λ o. IfNone o ((v : Literal) → Spells text.now v → ⊥)) }
+{
+    match lex(alloc, text.as_bytes()) {
+        Ok(tokens) => value_of(alloc, tokens.as_slice()),
+        Err(SourceError::Refused { .. }) => Ok(None),
+        Err(SourceError::OutOfMemory) => Err(OutOfMemory),
+    }
+}
+
+#[cfg(test)]
+mod tests;

@@ -1,4 +1,4 @@
-use Rattle.std.proofs.Common.{rules, ◌≡◌, neg_ℤ, true, false, refl, ◌∙◌}
+use Rattle.std.proofs.Common.{rules, ◌≡◌, neg_ℤ, true, false, refl}
 use Rattle.rd_parse.specs.Terminal.{number_of}
 use Rattle.rd_parse.specs.Literals.{new_number}
 use Rattle.rd_parse.specs.LiteralReading.{read_negative_key}

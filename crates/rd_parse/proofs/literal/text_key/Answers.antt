@@ -1,4 +1,4 @@
-use Rattle.std.proofs.Common.{rules, ◌≡◌, true, false, refl, ◌∙◌}
+use Rattle.std.proofs.Common.{rules, ◌≡◌, true, false, refl}
 use Rattle.rd_parse.specs.Literals.{new_text}
 use Rattle.rd_parse.specs.LiteralReading.{read_text_key}
 use Rattle.rd_parse.proofs.Keys.{text_told}
