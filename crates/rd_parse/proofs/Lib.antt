@@ -21,7 +21,6 @@ pub mod Whole
 pub mod Loops
 pub mod Flat
 pub mod Halts
-pub mod Below
 pub mod Bound
 pub mod Pick
 pub mod Sets

@@ -1,6 +1,6 @@
 //! Decorators with their options.
 
-ghost use Rattle.std.specs.Prelude.{◌≡◌, ◌<◌};
+ghost use Rattle.std.specs.Prelude.{◌≡◌};
 ghost use Rattle.rd_parse.specs.declared.terminal.Terminal.TheVariants as w;
 ghost use Rattle.rd_parse.specs.Reader.{hits, onto, read_more};
 ghost use Rattle.rd_parse.specs.Terminal.{is};

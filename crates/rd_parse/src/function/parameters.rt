@@ -1,6 +1,6 @@
 //! Parameters with their defaults.
 
-ghost use Rattle.std.specs.Prelude.{◌≡◌, ◌<◌};
+ghost use Rattle.std.specs.Prelude.{◌≡◌};
 ghost use Rattle.rd_parse.specs.Reader.{onto, read_below};
 ghost use Rattle.rd_parse.specs.Gives.{Gives};
 ghost use Rattle.rd_parse.specs.LiteralReading.{read_literal};
@@ -21,20 +21,22 @@ use rd_value::value::Value;
 use std::alloc::Global;
 
 /// A literal one level further in.
-#[tactic(auto, using(crate::proofs::Below::one_below))]
 fn inner_plain<'a>(alloc: Global, depth: usize, tokens: &'a [Token]) -> Read<'a, Value>
-    requires { 0 < depth }
     ensures { Gives (λ x. (x.0, x.1.now)) result (read_below read_literal depth tokens.now) }
 {
+    if depth == 0 {
+        return Err(Halt::Deep(tokens));
+    }
     literal(alloc, depth - 1, tokens)
 }
 
 /// What may stand behind a name, one level further in.
-#[tactic(auto, using(crate::proofs::Below::one_below))]
 fn inner_annotated<'a>(depth: usize, tokens: &'a [Token]) -> Behind<'a>
-    requires { 0 < depth }
     ensures { Gives (λ r. (tt, r.now)) result (read_below read_annotated depth tokens.now) }
 {
+    if depth == 0 {
+        return Err(Halt::Deep(tokens));
+    }
     annotated(depth - 1, tokens)
 }
 
@@ -45,7 +47,6 @@ fn with_default<'a>(
     name: Name,
     tokens: &'a [Token],
 ) -> Read<'a, Parameter>
-    requires { 0 < depth }
     ensures { Gives (λ x. (x.0, x.1.now)) result (read_with_default depth name tokens.now) }
 {
     let rest = expect(tokens, Terminal::Assign)?;
@@ -65,7 +66,6 @@ fn default_for<'a>(
     needed: bool,
     tokens: &'a [Token],
 ) -> Read<'a, Parameter>
-    requires { 0 < depth }
     ensures { Gives (λ x. (x.0, x.1.now)) result (read_default_for depth name needed tokens.now) }
 {
     if needed || begins_with(tokens, Terminal::Assign) {
@@ -88,7 +88,6 @@ fn parameter<'a>(
     needed: bool,
     tokens: &'a [Token],
 ) -> Read<'a, Parameter>
-    requires { 0 < depth }
     ensures { Gives (λ x. (x.0, x.1.now)) result (read_parameter depth needed tokens.now) }
 {
     let (name, rest) = name(alloc, tokens)?;
@@ -111,7 +110,6 @@ fn parameters_behind<'a>(
     mut all: Vec<Parameter>,
     tokens: &'a [Token],
 ) -> Read<'a, Vec<Parameter>>
-    requires { 0 < depth }
     ensures { Gives (λ x. (x.0.items, x.1.now)) result (onto all.items (read_parameters_behind depth needed) tokens.now) }
 {
     let mut needed = needed;
@@ -136,7 +134,6 @@ fn more_parameters<'a>(
     first: Parameter,
     tokens: &'a [Token],
 ) -> Read<'a, Vec<Parameter>>
-    requires { 0 < depth }
     ensures { Gives (λ x. (x.0.items, x.1.now)) result (read_more_parameters depth first tokens.now) }
 {
     let needed = defaulted(false, &first);
@@ -148,7 +145,6 @@ fn more_parameters<'a>(
 /// Parameters with commas between them, or none.
 #[tactic(auto, unfolding(crate::specs::ModuleReading::read_parameters))]
 fn parameters<'a>(alloc: Global, depth: usize, tokens: &'a [Token]) -> Read<'a, Vec<Parameter>>
-    requires { 0 < depth }
     ensures { Gives (λ x. (x.0.items, x.1.now)) result (read_parameters depth tokens.now) }
 {
     if !begins_with(tokens, Terminal::Name) {
