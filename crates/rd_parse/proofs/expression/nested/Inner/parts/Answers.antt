@@ -1,4 +1,4 @@
-use Rattle.std.proofs.Common.{◌≡◌, true, sym, ◌∙◌, arith}
+use Rattle.std.proofs.Common.{sym, ◌∙◌, arith}
 use Rattle.std.proofs.lemmas.Result.{err_from_is_err_and}
 use Rattle.rd_parse.proofs.Inner.{parts_go_on, parts_done, parts_fail}
 use Rattle.rd_parse.proofs.expression.nested.Inner.parts.Goals as goal
