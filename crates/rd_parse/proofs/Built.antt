@@ -1,5 +1,5 @@
 -- Trees of one operand, and of more.
-use Rattle.std.proofs.Common.{◌≡◌, ℕ, ◌<◌, List, [], ◌∷◌, ◌++◌, append_assoc, length, refl, arith}
+use Rattle.std.proofs.Common.{◌≡◌, ◌<◌, List, [], ◌∷◌, ◌++◌, append_assoc, length, refl, arith}
 use Rattle.std.proofs.lemmas.List.{append-nil}
 use Rattle.rd_parse.specs.declared.tree.Operator.{Operator}
 use Rattle.rd_parse.specs.declared.tree.Node.TheVariants as node

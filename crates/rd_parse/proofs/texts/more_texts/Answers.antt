@@ -1,4 +1,4 @@
-use Rattle.std.proofs.Common.{◌≡◌, ◌++◌, Ok, sym, ap, ◌∙◌}
+use Rattle.std.proofs.Common.{◌++◌, Ok, sym, ap, ◌∙◌}
 use Rattle.std.specs.Prelude.{string_bytes}
 use Rattle.rd_parse.proofs.Joining.{texts_go_on, texts_done}
 use Rattle.rd_parse.proofs.texts.more_texts.Goals as goal

@@ -1,9 +1,8 @@
-use Rattle.std.proofs.Common.{◌≡◌, true, refl, sym, ◌∙◌}
+use Rattle.std.proofs.Common.{sym, ◌∙◌}
 use Rattle.std.proofs.lemmas.Result.{err_from_is_err_and}
 use Rattle.rd_parse.specs.declared.terminal.Terminal.TheVariants as w
 use Rattle.rd_parse.specs.Reader.{hits}
 use Rattle.rd_parse.specs.Terminal.{is}
-use Rattle.rd_parse.specs.Expressions.{plus_of, times_of}
 use Rattle.rd_parse.specs.Reading.{inner, read_and}
 use Rattle.rd_parse.proofs.Loops.{plain_goes_on, plain_done}
 use Rattle.rd_parse.proofs.Halts.{plain_fails}

@@ -3,7 +3,7 @@ use Rattle.rd_parse.specs.declared.terminal.Terminal.TheVariants as w
 use Rattle.rd_parse.specs.Reader.{sees}
 use Rattle.rd_parse.specs.Terminal.{is, among}
 use Rattle.rd_parse.specs.Expressions.{Tree, begins_expression}
-use Rattle.rd_parse.specs.Reading.{inner, read_pair}
+use Rattle.rd_parse.specs.Reading.{inner}
 use Rattle.rd_parse.proofs.Loops.{signed_goes_on, signed_shorter}
 use Rattle.rd_parse.proofs.Nested.{nested_short}
 use Rattle.rd_parse.proofs.expression.nested.Inner.expressions_behind.Goals as goal

@@ -3,7 +3,7 @@ use Rattle.rd_parse.specs.declared.terminal.Terminal.TheVariants as w
 use Rattle.rd_parse.specs.Reader.{onto, read_more}
 use Rattle.rd_parse.specs.Terminal.{among, is}
 use Rattle.rd_parse.specs.Expressions.{begins_expression}
-use Rattle.rd_parse.specs.Reading.{inner, read_pair}
+use Rattle.rd_parse.specs.Reading.{inner}
 use Rattle.rd_parse.proofs.expression.nested.Inner.expressions_behind.Given as goal
 
 abbrev pub invariant-loop-behind : goal.invariant-loop-behind

@@ -2,8 +2,8 @@ use Rattle.std.proofs.Common.{rules}
 use Rattle.rd_parse.specs.declared.terminal.Terminal.TheVariants as w
 use Rattle.rd_parse.specs.Reader.{read_more}
 use Rattle.rd_parse.specs.Terminal.{among, is}
-use Rattle.rd_parse.specs.Expressions.{begins_expression, behind}
-use Rattle.rd_parse.specs.Reading.{inner, read_arguments_behind, read_pair, read_more_pairs}
+use Rattle.rd_parse.specs.Expressions.{begins_expression}
+use Rattle.rd_parse.specs.Reading.{inner, read_pair, read_more_pairs}
 use Rattle.rd_parse.proofs.Halts.{behind_first}
 use Rattle.rd_parse.proofs.expression.nested.Inner.more_pairs.Goals as goal
 

@@ -1,8 +1,6 @@
 use Rattle.std.proofs.Common.{◌≡◌, length}
-use Rattle.rd_parse.specs.declared.terminal.Terminal.TheVariants as w
 use Rattle.rd_parse.specs.Reader.{hits, onto, read_many}
-use Rattle.rd_parse.specs.Terminal.{is}
-use Rattle.rd_parse.specs.Expressions.{plus_of, times_of}
+use Rattle.rd_parse.specs.Expressions.{plus_of}
 use Rattle.rd_parse.specs.Reading.{inner, read_plus}
 use Rattle.rd_parse.proofs.expression.nested.Inner.sum_links.Given as goal
 
