@@ -1,11 +1,9 @@
 -- Trees of one operand, and of more.
-use Rattle.std.proofs.Common.{◌≡◌, ◌<◌, List, [], ◌∷◌, ◌++◌, append_assoc, length, refl, arith}
-use Rattle.std.proofs.lemmas.List.{append-nil}
+use Rattle.std.proofs.Common.{◌≡◌, ◌<◌, List, [], ◌∷◌, ◌++◌, length, refl, arith}
 use Rattle.rd_parse.specs.declared.tree.Operator.{Operator}
 use Rattle.rd_parse.specs.declared.tree.Node.TheVariants as node
 use Rattle.rd_parse.specs.declared.tree.Name.{Name}
 use Rattle.rd_parse.specs.declared.expression.arguments.Given.{Given}
-use Rattle.rd_parse.specs.declared.expression.arguments.Given.TheVariants as given
 use Rattle.rd_parse.specs.Expressions.{Tree, Arguments, sorted, chained, anded, ored}
 
 pub chain_alone : (first : Tree) (more : List (Operator × Tree)) → length more ≡ 0 → first ≡ chained first more
@@ -35,15 +33,3 @@ or_of first (e ∷ es) h = refl
 -- those that were put in their place, with those that are left
 abbrev pub with_left : List Tree → List (Name × Tree) → List Given → Arguments
 with_left ps ks left = (ps ++ (sorted left).0, ks ++ (sorted left).1)
-
-pub left_all : (all : List Given) → with_left [] [] all ≡ sorted all
-left_all all = refl
-
-pub left_none : (ps : List Tree) (ks : List (Name × Tree)) → with_left ps ks [] ≡ (ps, ks)
-left_none ps ks = simp append-nil
-
-pub left_positional : (ps : List Tree) (ks : List (Name × Tree)) (e : Tree) (left : List Given) → with_left (ps ++ e ∷ []) ks left ≡ with_left ps ks (given.Positional e ∷ left)
-left_positional ps ks e left = simp append_assoc
-
-pub left_keyword : (ps : List Tree) (ks : List (Name × Tree)) (name : Name) (e : Tree) (left : List Given) → with_left ps (ks ++ (name, e) ∷ []) left ≡ with_left ps ks (given.Keyword name e ∷ left)
-left_keyword ps ks name e left = simp append_assoc

@@ -1,6 +1,5 @@
 //! Expressions. `depth` is how many levels may be open.
 
-ghost use Rattle.std.specs.Prelude.{◌≡◌};
 ghost use Rattle.rd_parse.specs.Gives.{Gives};
 ghost use Rattle.rd_parse.specs.Nests.{read_rule};
 ghost use Rattle.rd_parse.specs.Reading.{read_expression};

@@ -1,6 +1,6 @@
 //! Expressions with commas between them, and the arguments of calls.
 
-ghost use Rattle.std.specs.Prelude.{◌≡◌, ◌<◌, ◌++◌, ◌∷◌, [], drop, IfOk};
+ghost use Rattle.std.specs.Prelude.{◌≡◌, ◌<◌, IfOk};
 ghost use Rattle.rd_parse.specs.declared.terminal.Terminal.TheVariants as w;
 ghost use Rattle.rd_parse.specs.Reader.{sees, hits, onto, pair, read_more};
 ghost use Rattle.rd_parse.specs.Terminal.{among, is, name_of};

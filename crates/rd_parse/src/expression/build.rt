@@ -1,6 +1,6 @@
 //! Trees of parts that were read.
 
-ghost use Rattle.std.specs.Prelude.{◌≡◌, IfOk, [], ◌∷◌, ◌++◌};
+ghost use Rattle.std.specs.Prelude.{◌≡◌, IfOk, ◌∷◌};
 ghost use Rattle.rd_parse.specs.Expressions.{anded, called, chained, comp, ored, with_part};
 ghost use Rattle.rd_parse.specs.declared.tree.Node.TheVariants as node;
 

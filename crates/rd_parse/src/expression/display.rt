@@ -1,6 +1,6 @@
 //! What stands in square and curly brackets.
 
-ghost use Rattle.std.specs.Prelude.{◌≡◌, ◌<◌};
+ghost use Rattle.std.specs.Prelude.{◌<◌};
 ghost use Rattle.rd_parse.specs.declared.terminal.Terminal.TheVariants as w;
 ghost use Rattle.rd_parse.specs.Reader.{onto, read_more};
 ghost use Rattle.rd_parse.specs.Terminal.{among, is};

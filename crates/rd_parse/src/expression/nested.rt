@@ -1,6 +1,6 @@
 //! What stands one level further in. The rules are methods of `Inner`, so that only `read` calls itself.
 
-ghost use Rattle.std.specs.Prelude.{◌≡◌, ◌<◌, ◌-◌};
+ghost use Rattle.std.specs.Prelude.{◌<◌, ◌-◌};
 ghost use Rattle.rd_parse.specs.Gives.{Gives};
 ghost use Rattle.rd_parse.specs.Nests.{Nests, read_rule};
 ghost use Rattle.rd_parse.specs.Reading.{inner};
