@@ -14,3 +14,4 @@ pub mod Terminal
 pub mod Expressions
 pub mod Reading
 pub mod Nests
+pub mod Blocks
