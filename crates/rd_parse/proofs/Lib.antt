@@ -31,3 +31,5 @@ pub mod Nested
 pub mod Inner
 pub mod Built
 pub mod Joining
+pub mod Blocks
+pub mod Simple

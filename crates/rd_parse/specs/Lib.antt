@@ -15,3 +15,4 @@ pub mod Terminal
 pub mod Expressions
 pub mod Reading
 pub mod Nests
+pub mod Blocks
