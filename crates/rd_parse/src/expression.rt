@@ -14,11 +14,12 @@ mod postfix;
 
 use crate::halt::Halt;
 use crate::tree::{Name, Node};
+pub use arguments::begins_expression;
 use nested::{Inner, Rule};
 use rd_syntax::Token;
 use std::alloc::Global;
 
-type Tree = Node<Name>;
+pub type Tree = Node<Name>;
 
 /// What was read, with the tokens behind it.
 pub type Read<'a, T> = Result<(T, &'a [Token]), Halt<'a>>;

@@ -17,4 +17,5 @@ pub mod tree;
 
 pub use halt::Halt;
 pub use literal::parse_literal;
-pub use parser::{MAX_NESTING, parse};
+pub use parser::parse;
+pub use take::MAX_NESTING;

@@ -11,7 +11,7 @@ ghost use Rattle.rd_parse.specs.LiteralReading.{read_curly, read_deep_literal, r
 
 use crate::expression::Read;
 use crate::halt::Halt;
-use crate::take::{LEVELS, after, begins_with, constant, expect, number, open};
+use crate::take::{MAX_NESTING, after, begins_with, constant, expect, number, open};
 use crate::terminal::{Terminal, terminal_of};
 use crate::texts::texts;
 use indexmap::IndexSet;
@@ -365,7 +365,7 @@ fn value_of(alloc: Global, tokens: &[Token]) -> Result<Option<Value>, OutOfMemor
     ensures found { IfOk result (λ o. IfSome o (λ v. IsLiteral tokens.now v × (is_within (λ f. f) v ≡ true))) }
     ensures only { IfOk result (λ o. IfNone o ((v : Literal) → IsLiteral tokens.now v → is_within (λ f. f) v ≡ true → ⊥)) }
 {
-    let (value, rest) = match literal_text(alloc, LEVELS, tokens) {
+    let (value, rest) = match literal_text(alloc, MAX_NESTING, tokens) {
         Ok(read) => read,
         Err(Halt::Memory) => return Err(OutOfMemory),
         Err(Halt::Refused(_)) => return Ok(None),

@@ -9,12 +9,10 @@ ghost use Rattle.rd_parse.specs.declared.tree.Module.{Module};
 
 use crate::halt::Halt;
 use crate::module::whole;
+use crate::take::MAX_NESTING;
 use crate::tree::Module;
 use rd_syntax::{SourceError, Token, Tokens};
 use std::alloc::Global;
-
-/// How many levels may be open at once.
-pub const MAX_NESTING: usize = 64;
 
 /// The line of the last token, or the first line where there is no token.
 fn last_line(tokens: &[Token]) -> u32

@@ -15,8 +15,8 @@ use rd_syntax::Token;
 use rd_value::value::Value;
 use std::alloc::Global;
 
-/// How many levels may be open in a text.
-pub const LEVELS: usize = 64;
+/// How many levels may be open at once.
+pub const MAX_NESTING: usize = 64;
 
 pub fn begins_with(tokens: &[Token], wanted: Terminal) -> bool
     ensures { result ≡ sees (hits (is wanted)) tokens.now }

@@ -1,13 +1,11 @@
 use super::{Tree, expression};
 use crate::halt::Halt;
+use crate::take::MAX_NESTING;
 use crate::tree::{Comparison, Name, Node, Operator};
 use rd_base::OutOfMemory;
 use rd_syntax::{Token, lex};
 use rd_value::value::Value;
 use std::alloc::Global;
-
-/// How many levels may be open in the tests.
-const LEVELS: usize = 64;
 
 fn sign(operator: Operator) -> &'static str {
     match operator {
@@ -176,7 +174,7 @@ fn read(alloc: Global, source: &str) -> Result<String, OutOfMemory> {
         Ok(tokens) => tokens,
         Err(_) => return Ok(String::from_str(alloc, "no tokens")?),
     };
-    match expression(alloc, LEVELS, tokens.as_slice()) {
+    match expression(alloc, MAX_NESTING, tokens.as_slice()) {
         Ok((tree, rest)) => {
             let shown = show(alloc, &tree)?;
             place(alloc, shown.as_str(), rest)
@@ -316,10 +314,10 @@ const LEVEL: [(&str, &str, &str); 9] = [
 #[test]
 fn levels_are_counted(rt: HostRuntime) -> Result<(), OutOfMemory> {
     for row in LEVEL {
-        let fits = nested(rt.alloc(), LEVELS, row)?;
+        let fits = nested(rt.alloc(), MAX_NESTING, row)?;
         let shown = read(rt.alloc(), fits.as_str())?;
         assert!(rt; shown.as_str().ends_with(" 1 "), "{}{}", row.0, row.2);
-        let deep = nested(rt.alloc(), LEVELS + 1, row)?;
+        let deep = nested(rt.alloc(), MAX_NESTING + 1, row)?;
         let shown = read(rt.alloc(), deep.as_str())?;
         assert!(rt; shown.as_str().starts_with("deep"), "{}{}", row.0, row.2);
     }

@@ -58,20 +58,41 @@ const TABLE: [(&[u8], &str); 77] = [
     (b"# nothing\n\n  # else\n", ""),
     (b"'a'\n'b'\n", ""),
     (b"\xef\xbb\xbfdef f(): pass", "f1():1 "),
-    (b"'a'\nfrom redun import task\nredun_namespace = 'b' 'c'\n\n@task(name='d', limits=['e'],)\ndef f(x: int, y=-1) -> str: return x\n", "bc3 @2 f6(x,y=,):1 "),
+    (
+        b"'a'\nfrom redun import task\nredun_namespace = 'b' 'c'\n\n@task(name='d', limits=['e'],)\ndef f(x: int, y=-1) -> str: return x\n",
+        "bc3 @2 f6(x,y=,):1 ",
+    ),
     (b"from redun.a.b import (c,\n d,)\n", ""),
     (b"from redun import a, b\r\n", ""),
     (b"@task(\n)\ndef f(): pass", "@0 f3():1 "),
     (b"@task\n\n# a\ndef f(): pass", "@0 f4():1 "),
     (b"def f(a, b=1,): pass", "f1(a,b=,):1 "),
-    (b"def f(a: list[int | None, 'b'] = None) -> a.b | None: pass", "f1(a=,):1 "),
-    (b"def f():\n  'a'\n  x = 1\n  return x\n@task\ndef g(): pass", "f1():2 @0 g6():1 "),
-    (b"def f():\n  if a:\n    pass\n  elif b: pass\n  else:\n    pass\n  return\n", "f1():2 "),
-    (b"def f():\n  for a in b: x += 1\n  while c:\n    x: int = 2\n", "f1():2 "),
-    (b"def f():\n  raise ValueError('a')\n  'b' 'c'\n  ('d')\n", "f1():2 "),
+    (
+        b"def f(a: list[int | None, 'b'] = None) -> a.b | None: pass",
+        "f1(a=,):1 ",
+    ),
+    (
+        b"def f():\n  'a'\n  x = 1\n  return x\n@task\ndef g(): pass",
+        "f1():2 @0 g6():1 ",
+    ),
+    (
+        b"def f():\n  if a:\n    pass\n  elif b: pass\n  else:\n    pass\n  return\n",
+        "f1():2 ",
+    ),
+    (
+        b"def f():\n  for a in b: x += 1\n  while c:\n    x: int = 2\n",
+        "f1():2 ",
+    ),
+    (
+        b"def f():\n  raise ValueError('a')\n  'b' 'c'\n  ('d')\n",
+        "f1():2 ",
+    ),
     (b"def f(): return not a not in b", "f1():1 "),
     (b"def f(): 1 if a else 2 if b else 3", "f1():1 "),
-    (b"def f(): return [a.path, a.path(1), {1: 2,}, [b for c in d if e]]", "f1():1 "),
+    (
+        b"def f(): return [a.path, a.path(1), {1: 2,}, [b for c in d if e]]",
+        "f1():1 ",
+    ),
     (b"def f(a):\n  return (a[0]\n.strip()\n)", "f1(a,):1 "),
     (b"@task\ndef f(", "refused 2"),
     (b"@task\ndef f():\n\treturn 1", "refused 3"),
@@ -101,7 +122,10 @@ const TABLE: [(&[u8], &str); 77] = [
     (b"@task\n@task\ndef f(): pass", "refused 2"),
     (b"@task(\n,)\ndef f(): pass", "refused 2"),
     (b"@task(name='a'\nname='b')\ndef f(): pass", "refused 2"),
-    (b"@task(limits={'a': 1, 'a'\n: 2})\ndef f(): pass", "refused 2"),
+    (
+        b"@task(limits={'a': 1, 'a'\n: 2})\ndef f(): pass",
+        "refused 2",
+    ),
     (b"@task(limits={1: 1,\n1\n: 2})\ndef f(): pass", "refused 2"),
     (b"@task(limits=[1,\n(2)])\ndef f(): pass", "refused 2"),
     (b"def f(): pass\ndef g(a=1, b): pass", "refused 2"),
@@ -112,7 +136,10 @@ const TABLE: [(&[u8], &str); 77] = [
     (b"\ndef f(): if a: pass", "refused 2"),
     (b"def f():\n  def g(): pass", "refused 2"),
     (b"def f():\n  else: pass", "refused 2"),
-    (b"def f():\n  if a: pass\n  else: pass\n  elif b: pass", "refused 4"),
+    (
+        b"def f():\n  if a: pass\n  else: pass\n  elif b: pass",
+        "refused 4",
+    ),
     (b"def f():\n  for a, b in c: pass", "refused 2"),
     (b"def f():\n  break", "refused 2"),
     (b"def f():\n  a.b = 1", "refused 2"),
@@ -143,7 +170,14 @@ fn reads_modules(rt: HostRuntime) -> Result<(), Fail> {
 }
 
 /// A source that opens levels: what stands in front, what opens one level, what stands behind, what closes one, how many levels, and the answer.
-type Deep = (&'static str, &'static str, &'static str, &'static str, usize, &'static str);
+type Deep = (
+    &'static str,
+    &'static str,
+    &'static str,
+    &'static str,
+    usize,
+    &'static str,
+);
 
 /// Each level that is opened has a line of its own.
 const DEEP: [Deep; 18] = [
@@ -156,8 +190,22 @@ const DEEP: [Deep; 18] = [
     ("def f(): return (", "not\n", "1)", "", 63, "refused 63"),
     ("def f(): return (", "-\n", "1)", "", 62, "f1():1 "),
     ("def f(): return (", "-\n", "1)", "", 63, "refused 63"),
-    ("def f(): return (", "1 if 2 else\n", "3)", "", 62, "f1():1 "),
-    ("def f(): return (", "1 if 2 else\n", "3)", "", 63, "refused 63"),
+    (
+        "def f(): return (",
+        "1 if 2 else\n",
+        "3)",
+        "",
+        62,
+        "f1():1 ",
+    ),
+    (
+        "def f(): return (",
+        "1 if 2 else\n",
+        "3)",
+        "",
+        63,
+        "refused 63",
+    ),
     ("def f(a): return (a", "[0]\n", ")", "", 62, "f1(a,):1 "),
     ("def f(a): return (a", "[0]\n", ")", "", 63, "refused 63"),
     ("def f(a): return (a", ".b()\n", ")", "", 62, "f1(a,):1 "),
