@@ -1,4 +1,4 @@
-use Rattle.std.proofs.Common.{◌≡◌, true, refl, sym, ◌∙◌}
+use Rattle.std.proofs.Common.{sym, ◌∙◌}
 use Rattle.std.proofs.lemmas.Result.{err_from_is_err_and}
 use Rattle.rd_parse.proofs.Blocks.{branches_go_on, branches_fail, branches_done}
 use Rattle.rd_parse.proofs.Statements.{another_branch_short}

@@ -1,4 +1,4 @@
-use Rattle.std.proofs.Common.{◌≡◌, true, refl, sym, ◌∙◌}
+use Rattle.std.proofs.Common.{sym, ◌∙◌}
 use Rattle.std.proofs.lemmas.Result.{err_from_is_err_and}
 use Rattle.rd_parse.proofs.Blocks.{commands_go_on, commands_fail, commands_done}
 use Rattle.rd_parse.proofs.Statements.{command_short}
