@@ -1,5 +1,6 @@
 pub mod Room
 pub mod InnerAnnotation
+pub mod Keys
 pub mod Past
 pub mod WholeTexts
 pub mod Modules
@@ -27,3 +28,8 @@ pub mod Samples
 pub mod Steps
 pub mod Expressions
 pub mod Nested
+pub mod Inner
+pub mod Built
+pub mod Joining
+pub mod Blocks
+pub mod Simple

@@ -14,7 +14,8 @@ use Rattle.rd_parse.specs.Form.{Form, one, many, either, below}
 use Rattle.rd_parse.specs.Reader.{Reader, read_one, read_below, hits, is_there}
 use Rattle.rd_parse.specs.Such.{such, read_such}
 use Rattle.rd_parse.specs.Terminal.{terminal, among, is, greatest, number_of, text_of}
-use Rattle.rd_parse.specs.Expressions.{joined, constant_of}
+use Rattle.rd_parse.specs.Expressions.{joined, texts, constant_of}
+use Rattle.rd_parse.specs.Reading.{read_texts}
 use Rattle.rd_parse.specs.Expressions as expression
 use Rattle.rd_parse.specs.Literals as form
 use Rattle.rd_parse.specs.Literals.{Literal, Pair, is_number, is_text, any_of, new_number, new_text, only_if, number_key_of, negative_key_of, with_key, begins_literal, begins_plain, begins_key, inner_literal, deep_literal}
@@ -22,12 +23,13 @@ use Rattle.rd_parse.specs.LiteralReading as reader
 use Rattle.rd_parse.specs.LiteralReading.{any_new, has_number, has_negative, read_inner_literal, read_deep_literal}
 use Rattle.rd_parse.proofs.Laws.{Grows, Completes, Lawful, or_none}
 use Rattle.rd_parse.proofs.Depth.{opening_grows, below_grows, below_zero, below_suc, recast}
+use Rattle.rd_parse.proofs.Loops.{Shrinks, shrinks_of}
 use Rattle.rd_parse.proofs.More.{way}
 use Rattle.rd_parse.proofs.Rules.{Up}
 use Rattle.rd_parse.proofs.Sets.{holds_one, set}
 use Rattle.rd_parse.proofs.Samples.{sample, example}
-use Rattle.rd_parse.proofs.Steps.{Step, Inward, settled, one_further, from_outside, opens_then, wide, carries, takes, makes, then, chooses, each, tests, commas, commas_by}
-use Rattle.rd_parse.proofs.Expressions.{text_is, number_within}
+use Rattle.rd_parse.proofs.Steps.{Step, Inward, settled, one_further, from_outside, opens_then, wide, carries, takes, makes, then, chooses, tests, commas, commas_by}
+use Rattle.rd_parse.proofs.Expressions.{text_is, texts_step, number_within}
 use Rattle.rd_parse.proofs.Numbers.{spelling, number_small}
 use Rattle.rd_parse.proofs.Such.{such_lawful}
 use Rattle.rd_parse.proofs.Dive.{Plain, Below, Brief, brief_some, Dives, nothing_below, below_dives, such_dives, recast_dives}
@@ -84,10 +86,6 @@ pub constant_there : constant_of (example w.Nothing) ≡ Some value.Nothing
 unfolding terminal
 constant_there = refl
 
-text_there : text_of (example w.Text) ≡ Some []
-unfolding terminal
-text_there = refl
-
 number_there : number_of (example w.Int) ≡ Some (pos 0)
 unfolding terminal
 number_there = refl
@@ -95,19 +93,12 @@ number_there = refl
 -- ---- plain literals
 
 module _ (U : ℕ → Type 0) (n : ℕ) where
-  text_token : Step U n (λ _. one text_of) (λ _. read_one text_of) (w.Text ∷ []) [] false
-  text_token = carries U n text_of (w.Text ∷ []) refl (example w.Text) _ text_there (λ t h. text_is t ∙ h)
-
   number_token : Step U n (λ _. one number_of) (λ _. read_one number_of) (w.Int ∷ []) [] false
   number_token = carries U n number_of (w.Int ∷ []) refl (example w.Int) _ number_there number_within
 
-  pub texts_step : Step U n (λ _. form.texts) (λ _. reader.read_texts) (w.Text ∷ []) (w.Text ∷ []) false
-  unfolding reader.read_texts
-  texts_step = then refl text_token (λ t. then refl (each (hits text_of) text_is refl text_token) (λ more. makes U n (joined (t ∷ more))))
-
   text_step : Step U n (λ _. form.text) (λ _. reader.read_text) (w.Text ∷ []) (w.Text ∷ []) false
   unfolding reader.read_text
-  text_step = then refl texts_step (λ t. makes U n (value.Text t))
+  text_step = then refl (texts_step U n) (λ t. makes U n (value.Text t))
 
   number_step : Step U n (λ _. form.number) (λ _. reader.read_number) (w.Int ∷ []) [] false
   unfolding reader.read_number
@@ -166,19 +157,19 @@ many_append : (more : List (List ℕ)) (ts : List Token) (u : Token) (t : List �
 many_append [] ts u t k is h = (k, subst (λ ts. one text_of t ts k) (sym h) (is, refl), refl)
 many_append (s ∷ more) ts u t k is h = (h.0, h.1, many_append more h.0 u t k is h.2)
 
-texts_append : (x : List ℕ) (ts : List Token) (u : Token) (t : List ℕ) (k : List Token) → text_of u ≡ Some t → form.texts x ts (u ∷ k) → form.texts (x ++ t) ts k
+texts_append : (x : List ℕ) (ts : List Token) (u : Token) (t : List ℕ) (k : List Token) → text_of u ≡ Some t → texts x ts (u ∷ k) → texts (x ++ t) ts k
 texts_append x ts u t k is h =
     let behind = h.3 in
     let same : behind.1 ≡ u ∷ k = behind.3.1 in
     let all : many (one text_of) behind.0 h.1 (u ∷ k) = subst (λ (r : List Token). many (one text_of) behind.0 h.1 r) same behind.2 in
-    let value : joined ((h.0 ∷ behind.0) ++ t ∷ []) ≡ x ++ t = joined_append (h.0 ∷ behind.0) t ∙ ap (λ y. y ++ t) behind.3.0 in
+    let value : h.0 ++ joined (behind.0 ++ t ∷ []) ≡ x ++ t = joined_append (h.0 ∷ behind.0) t ∙ ap (λ y. y ++ t) behind.3.0 in
     (h.0, h.1, h.2, (behind.0 ++ t ∷ [], k, many_append behind.0 h.1 u t k is all, (value, refl)))
 
 module _ (keys : List Literal) where
   abbrev New : ℕ → Form Token (List ℕ)
-  New _ = such (new_text keys) form.texts
+  New _ = such (new_text keys) texts
 
-  texts_longer : (used : List Token) (x : List ℕ) → ((k : List Token) → form.texts x (used ++ k) k) → Completes New used
+  texts_longer : (used : List Token) (x : List ℕ) → ((k : List Token) → texts x (used ++ k) k) → Completes New used
   texts_longer used x h = record {
     depth = 0;
     by_ = longer_token keys ∷ [];
@@ -186,13 +177,13 @@ module _ (keys : List Literal) where
     gives = λ k. (texts_append x (used ++ longer_token keys ∷ k) (longer_token keys) (longer keys) k (longer_there keys) (h (longer_token keys ∷ k)), longer_new keys x);
   }
 
-  texts_complete : (used : List Token) → Completes (λ _. form.texts) used → Completes New used
+  texts_complete : (used : List Token) → Completes (λ _. texts) used → Completes New used
   texts_complete used c = record {
     depth = 0;
     by_ = c.by_ ++ longer_token keys ∷ [];
     value = c.value ++ longer keys;
     gives = λ k.
-        let all : form.texts (c.value ++ longer keys) (used ++ (c.by_ ++ (longer_token keys ∷ k))) k =
+        let all : texts (c.value ++ longer keys) (used ++ (c.by_ ++ (longer_token keys ∷ k))) k =
         texts_append c.value _ (longer_token keys) (longer keys) k (longer_there keys) (c.gives (longer_token keys ∷ k)) in
         (rw append_assoc all, longer_new keys c.value);
   }
@@ -284,17 +275,17 @@ module _ (U : ℕ → Type 0) (n : ℕ) (keys : List Literal) where
       opens_then U n w.Minus refl
       (λ u. then refl (carries U n (negative_key_of keys) (w.Int ∷ []) refl s.0 s.1 s.2 (λ t h. number_within t (only_hits (λ z. new_number keys (neg_ℤ z)) (number_of t) h))) (λ z. makes U n (value.Int (neg_ℤ z))))
 
-  new_step : Step U n (λ _. such (new_text keys) form.texts) (λ _. read_such (new_text keys) reader.read_texts) (w.Text ∷ []) (w.Text ∷ []) false
+  new_step : Step U n (λ _. such (new_text keys) texts) (λ _. read_such (new_text keys) read_texts) (w.Text ∷ []) (w.Text ∷ []) false
   new_step = record {
     rule = record {
       up = λ j u a ts rest h. h;
       law = λ x.
           let l = (texts_step U n).rule.law x in
-          such_lawful n (new_text keys) (λ _. form.texts) (λ _. reader.read_texts) _ _ false l (texts_longer keys) (texts_complete keys [] l.some) (texts_complete keys);
+          such_lawful n (new_text keys) (λ _. texts) (λ _. read_texts) _ _ false l (texts_longer keys) (texts_complete keys [] l.some) (texts_complete keys);
     };
-    dives = λ x. such_dives ⊥ n (new_text keys) (λ _. form.texts) (λ _. reader.read_texts) (λ m used c. let d = texts_complete keys used (record { depth = 1; by_ = c.by_; value = c.value; gives = c.gives }) in record { by_ = d.by_; value = d.value; gives = d.gives }) ((texts_step U n).dives x);
+    dives = λ x. such_dives ⊥ n (new_text keys) (λ _. texts) (λ _. read_texts) (λ m used c. let d = texts_complete keys used (record { depth = 1; by_ = c.by_; value = c.value; gives = c.gives }) in record { by_ = d.by_; value = d.value; gives = d.gives }) ((texts_step U n).dives x);
     plain = λ a ts rest h. (texts_step U n).plain a ts rest h.0;
-    brief = let d = texts_complete keys [] (brief_some (λ _. form.texts) (texts_step U n).brief) in record { by_ = d.by_; value = d.value; gives = d.gives };
+    brief = let d = texts_complete keys [] (brief_some (λ _. texts) (texts_step U n).brief) in record { by_ = d.by_; value = d.value; gives = d.gives };
   }
 
   text_key_step : Step U n (λ _. form.text_key keys) (λ _. reader.read_text_key keys) (w.Text ∷ []) (w.Text ∷ []) false
@@ -362,10 +353,13 @@ module _ (U : ℕ → Type 0) (n : ℕ) (X : ℕ → Form Token Literal) (F : �
   abbrev Within : {A : Type 0} → (ℕ → Form Token Literal → Form Token A) → (ℕ → Reader Token Literal → Reader Token A) → List Terminal → List Terminal → Bool → Type 0
   Within P f = Inward U n (λ m. P m (X m)) (λ m. f m (F m))
 
+  more_items_step : (e : Literal) → Within (λ m l. form.more_items m l e) (λ m l. reader.read_more_items m l e) (w.Comma ∷ []) (w.Comma ∷ w.Text ∷ literal_first) true
+  unfolding reader.read_more_items
+  more_items_step e = wide refl refl (then refl (commas (among begins_literal) literal_is refl refl inside) (λ more. makes U n (e ∷ more)))
+
   items_step : Within form.items reader.read_items literal_first (w.Comma ∷ w.Text ∷ literal_first) true
   unfolding reader.read_items
-  items_step =
-      wide refl refl (chooses (among begins_literal) literal_is refl (then refl inside (λ e. then refl (commas (among begins_literal) literal_is refl refl inside) (λ more. makes U n (e ∷ more)))) (makes U n []))
+  items_step = wide refl refl (chooses (among begins_literal) literal_is refl (then refl inside more_items_step) (makes U n []))
 
   square_step : Of form.square reader.read_square (w.LeftSquare ∷ []) [] false
   unfolding reader.read_square
@@ -397,9 +391,13 @@ module _ (U : ℕ → Type 0) (n : ℕ) (X : ℕ → Form Token Literal) (F : �
   more_pairs_step : (keys : List Literal) → Within (λ m l. form.more_pairs m l keys) (λ m l. reader.read_more_pairs m l keys) (w.Comma ∷ []) (w.Comma ∷ w.Text ∷ key_first) true
   more_pairs_step keys = wide refl refl (commas_by (λ s. among begins_key) with_key key_first (λ s. key_is) (λ s. refl) refl pair_step keys)
 
+  pairs_from_step : (keys : List Literal) (p : Pair) → Within (λ m l. form.pairs_from m l keys p) (λ m l. reader.read_pairs_from m l keys p) (w.Comma ∷ []) (w.Comma ∷ w.Text ∷ key_first) true
+  unfolding reader.read_pairs_from
+  pairs_from_step keys p = wide refl refl (then refl (more_pairs_step keys) (λ more. makes U n (p ∷ more)))
+
   pairs_step : Within form.pairs reader.read_pairs key_first (w.Comma ∷ w.Text ∷ key_first) true
   unfolding reader.read_pairs
-  pairs_step = wide refl refl (chooses (among begins_key) key_is refl (then refl (pair_step []) (λ p. then refl (more_pairs_step (with_key [] p)) (λ more. makes U n (p ∷ more)))) (makes U n []))
+  pairs_step = wide refl refl (chooses (among begins_key) key_is refl (then refl (pair_step []) (λ p. pairs_from_step (with_key [] p) p)) (makes U n []))
 
   curly_step : Of form.curly reader.read_curly (w.LeftCurly ∷ []) [] false
   unfolding reader.read_curly
@@ -441,6 +439,12 @@ pub inner_literal_laws : (n : ℕ) → Inner n
 unfolding inner_literal read_inner_literal
 inner_literal_laws zero = inner_zero
 inner_literal_laws (suc n) = from_outside n inner_literal read_inner_literal inner_up inner_some (deep_at n (inner_literal_laws n))
+
+pub inner_short : (n : ℕ) → Shrinks (read_inner_literal n)
+inner_short n = shrinks_of n inner_literal read_inner_literal _ _ (inner_literal_laws n).law
+
+pub pair_short : (n : ℕ) (keys : List Literal) → Shrinks (reader.read_pair n (read_inner_literal n) keys)
+pair_short n keys = shrinks_of n (λ m. form.pair m (inner_literal m) keys) (λ m. reader.read_pair m (read_inner_literal m) keys) _ _ ((pair_step On n inner_literal read_inner_literal (one_further n _ _ (λ j u. u) (inner_literal_laws n) inner_some no_literal) keys).rule.law inner_up)
 
 pub inner_literal_grows : Grows inner_literal
 inner_literal_grows = inner_up

@@ -2,7 +2,7 @@
 use Rattle.std.proofs.Common.{◌≡◌, ℕ, zero, suc, ◌<◌, Bool, true, false, cond, List, [], ◌∷◌, ◌++◌, length, Ok, Err, refl, sym, ap, ◌∙◌, append_assoc, length-append, arith, inl, inr, Option, Some, None}
 use Rattle.std.proofs.lemmas.List.{append-nil}
 use Rattle.rd_parse.specs.Form.{Form}
-use Rattle.rd_parse.specs.Reader.{Stop, Outcome, Reader, sees, hits, and_then, ◌>>=◌, pure, took, read_one, read_many, onto, read_many_by, read_tail, read_tail_by}
+use Rattle.rd_parse.specs.Reader.{Stop, Outcome, Reader, sees, hits, and_then, ◌>>=◌, pure, took, read_one, read_made, read_many, onto, read_many_by, read_tail, read_tail_by}
 use Rattle.rd_parse.proofs.Laws.{Lawful, one_none, got, got_rest}
 use Rattle.rd_parse.proofs.More.{by_true, by_false, way}
 
@@ -50,17 +50,32 @@ onto_one : {T A : Type 0} (all : List A) (a : A) (r : Outcome T (List A)) → an
 onto_one all a (Ok x) = ap (λ xs. Ok (xs, x.1)) (simp append_assoc)
 onto_one all a (Err e) = refl
 
+-- what is made of those that are read
+module _ {T A B : Type 0} (s : T → Bool) (g : Reader T A) (short : Shrinks g) where
+  pub made_goes_on : (h k : List A → B) (a : A) → ((more : List A) → h (a ∷ more) ≡ k more) → (ts mid : List T) → sees s ts ≡ true → g ts ≡ Ok (a, mid) → read_made h (read_many s g) ts ≡ read_made k (read_many s g) mid
+  made_goes_on h k a same ts mid y e = ap (λ r. and_then r (λ more. pure (h more))) (many_step s g short ts mid a y e) ∙ one_more (read_many s g mid)
+    where
+      one_more : (r : Outcome T (List A)) → and_then (and_then r (λ more. pure (a ∷ more))) (λ more. pure (h more)) ≡ and_then r (λ more. pure (k more))
+      one_more (Ok x) = ap (λ b. Ok (b, x.1)) (same x.0)
+      one_more (Err e) = refl
+
+  pub made_stops : (h : List A → B) (ts : List T) (e : Stop T) → sees s ts ≡ true → g ts ≡ Err e → read_made h (read_many s g) ts ≡ Err e
+  made_stops h ts e y d =
+      let none : read_many s g ts ≡ Err e = by_true (sees s ts) _ _ y ∙ ap (λ r. and_then r (λ a. read_many_by s g (length ts) >>= λ more. pure (a ∷ more))) d in
+      ap (λ r. and_then r (λ more. pure (h more))) none
+
+  pub made_done : (h : List A → B) (ts : List T) → sees s ts ≡ false → read_made h (read_many s g) ts ≡ Ok (h [], ts)
+  made_done h ts n = ap (λ r. and_then r (λ more. pure (h more))) (by_false (sees s ts) _ _ n)
+
 module _ {T A : Type 0} (s : T → Bool) (g : Reader T A) (short : Shrinks g) where
   pub plain_goes_on : (all : List A) (ts mid : List T) (a : A) → sees s ts ≡ true → g ts ≡ Ok (a, mid) → onto all (read_many s g) ts ≡ onto (all ++ a ∷ []) (read_many s g) mid
-  plain_goes_on all ts mid a y e = ap (λ r. and_then r (λ more. pure (all ++ more))) (many_step s g short ts mid a y e) ∙ onto_one all a (read_many s g mid)
+  plain_goes_on all ts mid a y e = made_goes_on s g short (λ more. all ++ more) (λ more. (all ++ a ∷ []) ++ more) a (λ more. simp append_assoc) ts mid y e
 
   pub plain_stops : (all : List A) (ts : List T) (h : Stop T) → sees s ts ≡ true → g ts ≡ Err h → onto all (read_many s g) ts ≡ Err h
-  plain_stops all ts h y e =
-      let none : read_many s g ts ≡ Err h = by_true (sees s ts) _ _ y ∙ ap (λ r. and_then r (λ a. read_many_by s g (length ts) >>= λ more. pure (a ∷ more))) e in
-      ap (λ r. and_then r (λ more. pure (all ++ more))) none
+  plain_stops all ts h y e = made_stops s g short (λ more. all ++ more) ts h y e
 
   pub plain_done : (all : List A) (ts : List T) → sees s ts ≡ false → onto all (read_many s g) ts ≡ Ok (all, ts)
-  plain_done all ts n = ap (λ r. and_then r (λ more. pure (all ++ more))) (by_false (sees s ts) _ _ n) ∙ ap (λ xs. Ok (xs, ts)) (append-nil all)
+  plain_done all ts n = made_done s g short (λ more. all ++ more) ts n ∙ ap (λ xs. Ok (xs, ts)) (append-nil all)
 
 -- ---- each behind a sign
 

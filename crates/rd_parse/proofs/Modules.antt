@@ -6,6 +6,8 @@ use Rattle.rd_parse.specs.declared.terminal.Terminal.{Terminal}
 use Rattle.rd_value.specs.declared.value.Datum.TheVariants as value
 use Rattle.rd_parse.specs.declared.terminal.Terminal.TheVariants as w
 use Rattle.rd_parse.specs.declared.tree.Name.{Name}
+use Rattle.rd_parse.specs.declared.tree.TaskOption.{TaskOption}
+use Rattle.rd_parse.specs.declared.tree.Parameter.{Parameter}
 use Rattle.rd_parse.specs.Form.{Form, one, below}
 use Rattle.rd_parse.specs.Reader.{Reader, read_one, read_below, hits, is_there}
 use Rattle.rd_parse.specs.Terminal.{terminal, among, is, same, flag, spells, name_of, text_of}
@@ -14,7 +16,8 @@ use Rattle.rd_parse.specs.LiteralReading.{read_literal, read_inner_literal}
 use Rattle.rd_parse.specs.Statements.{annotation, annotated, a_block}
 use Rattle.rd_parse.specs.StatementReading.{read_annotation, read_annotated, read_a_block}
 use Rattle.rd_parse.specs.Modules as form
-use Rattle.rd_parse.specs.Modules.{line_if, line_of, namespace_of, task_word, redun_word, defaulted, at_line, function_of, Part, Silent, Namespace, Defined, module_of, begins_part, module_form}
+use Rattle.rd_parse.specs.declared.module.build.Part.TheVariants.{Silent, Namespace, Defined}
+use Rattle.rd_parse.specs.Modules.{line_if, line_of, namespace_of, task_word, redun_word, defaulted, at_line, function_of, module_of, begins_part, module_form}
 use Rattle.rd_parse.specs.ModuleReading as reader
 use Rattle.rd_parse.specs.ModuleReading.{read_module}
 use Rattle.rd_parse.proofs.Laws.{Grows, Lawful}
@@ -24,8 +27,8 @@ use Rattle.rd_parse.proofs.Dive.{Brief, Dives, below_dives}
 use Rattle.rd_parse.proofs.Sets.{holds_one, holds_same, set}
 use Rattle.rd_parse.proofs.Samples.{sample, example}
 use Rattle.rd_parse.proofs.Steps.{Step, Inward, settled, one_further, opens_then, wide, carries, takes, makes, then, chooses, each, tests, commas, commas_by}
-use Rattle.rd_parse.proofs.Expressions.{name_is, text_is, name_there}
-use Rattle.rd_parse.proofs.Literals.{literal_first, plain_first, literal_step, constant_there, texts_step, inner_literal_laws, inner_some, no_literal, inner_literal_grows}
+use Rattle.rd_parse.proofs.Expressions.{name_is, text_is, name_there, texts_step}
+use Rattle.rd_parse.proofs.Literals.{literal_first, plain_first, literal_step, constant_there, inner_literal_laws, inner_some, no_literal, inner_literal_grows}
 use Rattle.rd_parse.proofs.Statements.{part_first, annotation_more, annotation_lawful, annotation_dives, annotation_brief, annotation_plain, annotation_grows, annotated_step, block_lawful, block_dives, block_brief, block_plain, block_grows}
 
 -- ---- single tokens
@@ -142,18 +145,25 @@ module _ (n : ℕ) where
   value_step : Within inner_literal read_inner_literal literal_first (w.Text ∷ []) false
   value_step = one_further n _ _ (λ j u. inner_literal_grows j) (inner_literal_laws n) inner_some no_literal
 
-  option_step : Within form.option reader.read_option (w.Name ∷ []) (w.Text ∷ []) false
+  pub option_step : Within form.option reader.read_option (w.Name ∷ []) (w.Text ∷ []) false
   unfolding reader.read_option
   option_step = then refl a_name (λ name. then refl (takes Free n w.Assign refl) (λ u. then refl value_step (λ v. makes Free n (record { name = name; value = v }))))
 
+  more_options_step : (first : TaskOption) → Within (λ m. form.more_options m first) (λ m. reader.read_more_options m first) (w.Comma ∷ []) (w.Comma ∷ w.Name ∷ w.Text ∷ []) true
+  unfolding reader.read_more_options
+  more_options_step first = wide refl refl (then refl (commas (hits (is w.Name)) (tests w.Name) refl refl option_step) (λ more. makes Free n (first ∷ more)))
+
   options_step : Within form.options reader.read_options (w.Name ∷ []) (w.Name ∷ w.Comma ∷ w.Text ∷ []) true
   unfolding reader.read_options
-  options_step = wide refl refl (chooses (hits name_of) name_is refl (then refl option_step (λ e. then refl (commas (hits name_of) name_is refl refl option_step) (λ more. makes Free n (e ∷ more)))) (makes Free n []))
+  options_step = wide refl refl (chooses (hits (is w.Name)) (tests w.Name) refl (then refl option_step more_options_step) (makes Free n []))
+
+  options_in_brackets_step : Of form.options_in_brackets reader.read_options_in_brackets (w.LeftParen ∷ []) [] false
+  unfolding reader.read_options_in_brackets
+  options_in_brackets_step = opens_then Free n w.LeftParen refl (λ u. then refl options_step (λ all. then refl (takes Free n w.RightParen refl) (λ v. makes Free n all)))
 
   given_options_step : Of form.given_options reader.read_given_options (w.LeftParen ∷ []) (w.LeftParen ∷ []) true
   unfolding reader.read_given_options
-  given_options_step =
-      wide refl refl (chooses (hits (is w.LeftParen)) (tests w.LeftParen) refl (opens_then Free n w.LeftParen refl (λ u. then refl options_step (λ all. then refl (takes Free n w.RightParen refl) (λ v. makes Free n all)))) (makes Free n []))
+  given_options_step = wide refl refl (chooses (hits (is w.LeftParen)) (tests w.LeftParen) refl options_in_brackets_step (makes Free n []))
 
   decorator_step : Of form.decorator reader.read_decorator (w.At ∷ []) [] false
   unfolding reader.read_decorator
@@ -188,7 +198,7 @@ module _ (n : ℕ) where
   abbrev parameter_more : List Terminal
   parameter_more = w.Assign ∷ w.Text ∷ w.Colon ∷ annotation_more
 
-  parameter_step : (s : Bool) → Within (λ m. form.parameter m s) (λ m. reader.read_parameter m s) (w.Name ∷ []) parameter_more false
+  pub parameter_step : (s : Bool) → Within (λ m. form.parameter m s) (λ m. reader.read_parameter m s) (w.Name ∷ []) parameter_more false
   unfolding reader.read_parameter
   parameter_step false = wide refl refl (then refl a_name (λ name. then refl annotation_step (λ u. default_step name false)))
   parameter_step true = wide refl refl (then refl a_name (λ name. then refl annotation_step (λ u. default_step name true)))
@@ -196,13 +206,20 @@ module _ (n : ℕ) where
   abbrev parameters_more : List Terminal
   parameters_more = w.Comma ∷ w.Name ∷ parameter_more
 
-  more_parameters_step : (s : Bool) → Within (λ m. form.more_parameters m s) (λ m. reader.read_more_parameters m s) (w.Comma ∷ []) parameters_more true
-  more_parameters_step s = wide refl refl (commas_by (λ s. hits name_of) defaulted (w.Name ∷ []) (λ s. name_is) (λ s. refl) refl parameter_step s)
+  parameters_behind_step : (s : Bool) → Within (λ m. form.parameters_behind m s) (λ m. reader.read_parameters_behind m s) (w.Comma ∷ []) parameters_more true
+  parameters_behind_step s = wide refl refl (commas_by (λ s. hits (is w.Name)) defaulted (w.Name ∷ []) (λ s. tests w.Name) (λ s. refl) refl parameter_step s)
+
+  more_parameters_step : (first : Parameter) → Within (λ m. form.more_parameters m first) (λ m. reader.read_more_parameters m first) (w.Comma ∷ []) parameters_more true
+  unfolding reader.read_more_parameters
+  more_parameters_step first = then refl (parameters_behind_step (defaulted false first)) (λ more. makes Free n (first ∷ more))
 
   parameters_step : Within form.parameters reader.read_parameters (w.Name ∷ []) parameters_more true
   unfolding reader.read_parameters
-  parameters_step =
-      wide refl refl (chooses (hits name_of) name_is refl (then refl (parameter_step false) (λ p. then refl (more_parameters_step (defaulted false p)) (λ more. makes Free n (p ∷ more)))) (makes Free n []))
+  parameters_step = wide refl refl (chooses (hits (is w.Name)) (tests w.Name) refl (then refl (parameter_step false) more_parameters_step) (makes Free n []))
+
+  parameters_in_brackets_step : Of form.parameters_in_brackets reader.read_parameters_in_brackets (w.LeftParen ∷ []) [] false
+  unfolding reader.read_parameters_in_brackets
+  parameters_in_brackets_step = opens_then Free n w.LeftParen refl (λ u. then refl parameters_step (λ all. then refl (takes Free n w.RightParen refl) (λ v. makes Free n all)))
 
   -- ---- functions
 
@@ -217,7 +234,7 @@ module _ (n : ℕ) where
   unfolding reader.read_head
   head_step =
       wide refl refl (then refl (carries Free n (line_of w.Def) (w.Def ∷ []) refl (example w.Def) 0 def_there (line_within w.Def))
-      (λ line. then refl a_name (λ name. opens_then Free n w.LeftParen refl (λ u. then refl parameters_step (λ all. then refl (takes Free n w.RightParen refl) (λ v. then refl returned_step (λ x. makes Free n (at_line name line, all))))))))
+      (λ line. then refl a_name (λ name. then refl parameters_in_brackets_step (λ all. then refl returned_step (λ u. makes Free n (at_line name line, all))))))
 
   block_step : Of a_block read_a_block (w.Colon ∷ []) [] false
   block_step = settled n _ _ block_grows (block_lawful n) (block_dives n) block_brief block_plain
@@ -279,9 +296,9 @@ module _ (n : ℕ) where
   unfolding reader.read_defines
   defines_step = then refl function_step (λ f. makes Free n (Defined f))
 
-  part_step : Of form.part reader.read_part module_first [] false
+  pub part_step : Of form.part reader.read_part module_first [] false
   unfolding reader.read_part
-  part_step = wide refl refl (chooses (hits text_of) text_is refl docstring_step (chooses (hits (is w.From)) (tests w.From) refl imports_step (chooses (hits name_of) name_is refl namespace_step defines_step)))
+  part_step = wide refl refl (chooses (hits text_of) text_is refl docstring_step (chooses (hits (is w.From)) (tests w.From) refl imports_step (chooses (hits (is w.Name)) (tests w.Name) refl namespace_step defines_step)))
 
   module_step : Of module_form read_module (w.End ∷ module_first) [] false
   unfolding read_module
@@ -303,3 +320,12 @@ part_of_path_short = shrinks_of 0 (λ _. form.part_of_path) (λ _. reader.read_p
 
 pub another_name_short : Shrinks reader.read_another_name
 another_name_short = shrinks_of 0 (λ _. form.another_name) (λ _. reader.read_another_name) _ _ ((another_name_step 0).rule.law (λ j. tt))
+
+pub option_short : (n : ℕ) → Shrinks (reader.read_option n)
+option_short n = shrinks_of n form.option reader.read_option _ _ ((option_step n).rule.law (λ j. tt))
+
+pub parameter_short : (n : ℕ) (s : Bool) → Shrinks (reader.read_parameter n s)
+parameter_short n s = shrinks_of n (λ m. form.parameter m s) (λ m. reader.read_parameter m s) _ _ ((parameter_step n s).rule.law (λ j. tt))
+
+pub part_short : (n : ℕ) → Shrinks (reader.read_part n)
+part_short n = shrinks_of n form.part reader.read_part _ _ ((part_step n).rule.law (λ j. tt))

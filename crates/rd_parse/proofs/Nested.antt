@@ -1,5 +1,5 @@
 -- Expressions are lawful at every level.
-use Rattle.std.proofs.Common.{◌≡◌, ℕ, zero, suc, true, false, List, [], ◌∷◌, Some, refl, inl, inr, ◌∙◌, ◌&&◌, codes}
+use Rattle.std.proofs.Common.{◌≡◌, ℕ, zero, suc, Bool, true, false, List, [], ◌∷◌, Some, refl, inl, inr, ◌∙◌, ◌&&◌, codes}
 use Rattle.rd_syntax.specs.declared.token.Token.{Token}
 use Rattle.rd_parse.specs.declared.terminal.Terminal.TheVariants as w
 use Rattle.rd_parse.specs.declared.tree.Name.{Name}
@@ -16,9 +16,10 @@ use Rattle.rd_parse.proofs.Dive.{Plain, Below, Brief, Dives, nothing_below}
 use Rattle.rd_parse.proofs.Rules.{Up}
 use Rattle.rd_parse.proofs.Sets.{set, sets_apart}
 use Rattle.rd_parse.proofs.Samples.{example}
+use Rattle.rd_parse.proofs.Loops.{Shrinks, shrinks_of}
 use Rattle.rd_parse.proofs.Steps.{Step, Inward, one_further, from_outside, tests}
 use Rattle.rd_parse.proofs.Expressions as rule
-use Rattle.rd_parse.proofs.Expressions.{first, factor_first, part_first, factor_more, comparison_more, disjunction_more, expression_more, parts_more, Lone, name_there, there_some}
+use Rattle.rd_parse.proofs.Expressions.{first, factor_first, part_first, plus_first, times_first, argument_first, factor_more, term_more, comparison_more, conjunction_more, disjunction_more, expression_more, parts_more, Lone, name_there, there_some}
 
 -- ---- a name alone
 
@@ -126,6 +127,24 @@ module _ (n : ℕ) (l : Inside n) (lone : Lone n level inner) where
   pub at_parts : (e : Tree) → Step Ups n (λ m. form.parts m (level m) e) (λ m. reader.read_parts m (inner m) e) part_first parts_more true
   at_parts e = rule.parts_step Ups n level inner expression_inside disjunction_inside inversion_inside factor_inside parts_inside lone e
 
+  pub at_or : Step Ups n (λ m. form.or_operand m (level m)) (λ m. reader.read_or m (inner m)) (w.Or ∷ []) conjunction_more false
+  at_or = rule.or_step Ups n level inner expression_inside disjunction_inside inversion_inside factor_inside parts_inside lone
+
+  pub at_and : Step Ups n (λ m. form.and_operand m (level m)) (λ m. reader.read_and m (inner m)) (w.And ∷ []) comparison_more false
+  at_and = rule.and_step Ups n level inner expression_inside disjunction_inside inversion_inside factor_inside parts_inside lone
+
+  pub at_plus : Step Ups n (λ m. form.plus m (level m)) (λ m. reader.read_plus m (inner m)) plus_first term_more false
+  at_plus = rule.plus_step Ups n level inner expression_inside disjunction_inside inversion_inside factor_inside parts_inside lone
+
+  pub at_times : Step Ups n (λ m. form.times m (level m)) (λ m. reader.read_times m (inner m)) times_first factor_more false
+  at_times = rule.times_step Ups n level inner expression_inside disjunction_inside inversion_inside factor_inside parts_inside lone
+
+  pub at_pair : Inward Ups n (λ m. form.pair m (level m)) (λ m. reader.read_pair m (inner m)) first expression_more false
+  at_pair = rule.pair_step Ups n level inner expression_inside disjunction_inside inversion_inside factor_inside parts_inside lone
+
+  pub at_argument : (s : Bool) → Inward Ups n (λ m. form.argument m (level m) s) (λ m. reader.read_argument m (inner m) s) (argument_first s) (w.Assign ∷ expression_more) false
+  at_argument s = rule.argument_step Ups n level inner expression_inside disjunction_inside inversion_inside factor_inside parts_inside lone s
+
 inside_zero : Inside 0
 unfolding level inner
 inside_zero = record {
@@ -195,3 +214,26 @@ expression_plain = (at_conditional 0 inside_zero lone_zero).plain
 pub expression_grows : Grows form.expression
 unfolding form.expression
 expression_grows n = (at_conditional 0 inside_zero lone_zero).rule.up n (ups n)
+
+-- ---- what is read one by one leaves less
+
+pub nested_short : (n : ℕ) → Shrinks (inner n).expression
+nested_short n = let d = at_level n in shrinks_of n (λ m. (level m).expression) (λ m. (inner m).expression) _ _ ((expression_inside n d.0 d.1).rule.law ups)
+
+pub or_short : (n : ℕ) → Shrinks (reader.read_or n (inner n))
+or_short n = let d = at_level n in shrinks_of n (λ m. form.or_operand m (level m)) (λ m. reader.read_or m (inner m)) _ _ ((at_or n d.0 d.1).rule.law ups)
+
+pub and_short : (n : ℕ) → Shrinks (reader.read_and n (inner n))
+and_short n = let d = at_level n in shrinks_of n (λ m. form.and_operand m (level m)) (λ m. reader.read_and m (inner m)) _ _ ((at_and n d.0 d.1).rule.law ups)
+
+pub plus_short : (n : ℕ) → Shrinks (reader.read_plus n (inner n))
+plus_short n = let d = at_level n in shrinks_of n (λ m. form.plus m (level m)) (λ m. reader.read_plus m (inner m)) _ _ ((at_plus n d.0 d.1).rule.law ups)
+
+pub times_short : (n : ℕ) → Shrinks (reader.read_times n (inner n))
+times_short n = let d = at_level n in shrinks_of n (λ m. form.times m (level m)) (λ m. reader.read_times m (inner m)) _ _ ((at_times n d.0 d.1).rule.law ups)
+
+pub pair_short : (n : ℕ) → Shrinks (reader.read_pair n (inner n))
+pair_short n = let d = at_level n in shrinks_of n (λ m. form.pair m (level m)) (λ m. reader.read_pair m (inner m)) _ _ ((at_pair n d.0 d.1).rule.law ups)
+
+pub argument_short : (n : ℕ) (s : Bool) → Shrinks (reader.read_argument n (inner n) s)
+argument_short n s = let d = at_level n in shrinks_of n (λ m. form.argument m (level m) s) (λ m. reader.read_argument m (inner m) s) _ _ ((at_argument n d.0 d.1 s).rule.law ups)

@@ -2,10 +2,13 @@
 use Rattle.std.proofs.Common.{◌≡◌, ◌≤◌, ◌<◌, ◌+◌, length, inl, inr, ℕ, zero, suc, ℤ, pos, neg_ℤ, Bool, true, false, not, ◌||◌, List, [], ◌∷◌, refl, sym, ap, ◌∙◌, arith}
 use Rattle.std.specs.Ordering.{int_eq}
 use Rattle.std.proofs.lemmas.Bool.Decides.{Decides-int_eq}
+use Rattle.rd_syntax.specs.declared.token.Token.{Token}
 use Rattle.rd_value.specs.declared.value.Datum.TheVariants as value
-use Rattle.rd_parse.specs.Terminal.{greatest}
+use Rattle.rd_parse.specs.declared.terminal.Terminal.TheVariants as w
+use Rattle.rd_parse.specs.Reader.{hits, read_either}
+use Rattle.rd_parse.specs.Terminal.{is, greatest}
 use Rattle.rd_parse.specs.Literals.{Literal, is_number, any_of, new_number}
-use Rattle.rd_parse.specs.LiteralReading.{any_new, has_number, has_negative}
+use Rattle.rd_parse.specs.LiteralReading.{any_new, has_number, has_negative, read_key, read_number_key, read_negative_key, read_text_key}
 use Rattle.rd_parse.proofs.More.{way}
 use Rattle.rd_parse.proofs.Literals.{none_there}
 
@@ -84,3 +87,9 @@ number_left keys few = room pos pos_once greatest keys few
 pub negative_left : (keys : List Literal) → length keys ≤ greatest → has_negative keys ≡ true
 unfolding has_negative
 negative_left keys few = room (λ m. neg_ℤ (pos m)) negative_once greatest keys few
+
+-- what may be a key, behind fewer keys than there are numbers
+pub key_is : (keys : List Literal) (n : ℕ) (ts : List Token) → length keys ≤ greatest
+    → read_key keys n ts ≡ read_either (hits (is w.Int)) (read_number_key keys) (read_either (hits (is w.Minus)) (read_negative_key keys n) (read_text_key keys)) ts
+unfolding read_key
+key_is keys n ts few = rw (number_left keys few, negative_left keys few) refl

@@ -316,7 +316,7 @@ module _ (U : ℕ → Type 0) (n : ℕ) where
   raising_step =
       then refl (takes U n w.Raise refl) (λ u. then refl the_name (λ class. opens_then U n w.LeftParen refl (λ v. then refl below_step (λ e. then refl (takes U n w.RightParen refl) (λ x. makes U n (Some (statement.Raise class e)))))))
 
-  passing_step : Step U n form.passing reader.read_passing (w.Pass ∷ []) [] false
+  passing_step : Step U n (λ _. form.passing) (λ _. reader.read_passing) (w.Pass ∷ []) [] false
   unfolding reader.read_passing
   passing_step = then refl (takes U n w.Pass refl) (λ u. makes U n (Some statement.Pass))
 
@@ -380,7 +380,7 @@ module _ (U : ℕ → Type 0) (n : ℕ) (X : ℕ → Form Token (List Command)) 
   unfolding reader.read_branch
   branch_step = wide refl refl (then refl (value_step U n) (λ test. then refl block_step (λ all. makes U n (test, all))))
 
-  another_branch_step : Of form.another_branch reader.read_another_branch (w.Elif ∷ []) [] false
+  pub another_branch_step : Of form.another_branch reader.read_another_branch (w.Elif ∷ []) [] false
   unfolding reader.read_another_branch
   another_branch_step = then refl (takes U n w.Elif refl) (λ u. branch_step)
 
@@ -388,10 +388,17 @@ module _ (U : ℕ → Type 0) (n : ℕ) (X : ℕ → Form Token (List Command)) 
   unfolding reader.read_otherwise
   otherwise_step = wide refl refl (chooses (hits (is w.Else)) (tests w.Else) refl (then refl (takes U n w.Else refl) (λ u. block_step)) (makes U n []))
 
+  more_branches_step : (b : Tree × List Command) → Of (λ m body. form.more_branches m body b) (λ m body. reader.read_more_branches m body b) (w.Elif ∷ []) (w.Elif ∷ []) true
+  unfolding reader.read_more_branches
+  more_branches_step b = wide refl refl (then refl (each (hits (is w.Elif)) (tests w.Elif) refl another_branch_step) (λ more. makes U n (b ∷ more)))
+
+  branches_step : Of form.branches reader.read_branches first (w.Elif ∷ []) false
+  unfolding reader.read_branches
+  branches_step = wide refl refl (then refl branch_step (λ b. more_branches_step b))
+
   choice_step : Of form.choice reader.read_choice (w.If ∷ []) statement_more false
   unfolding reader.read_choice
-  choice_step =
-      wide refl refl (then refl (takes U n w.If refl) (λ u. then refl branch_step (λ b. then refl (each (hits (is w.Elif)) (tests w.Elif) refl another_branch_step) (λ more. then refl otherwise_step (λ other. makes U n (Some (statement.If (b ∷ more) other)))))))
+  choice_step = wide refl refl (then refl (takes U n w.If refl) (λ u. then refl branches_step (λ all. then refl otherwise_step (λ other. makes U n (Some (statement.If all other))))))
 
   for_each_step : Of form.for_each reader.read_for_each (w.For ∷ []) [] false
   unfolding reader.read_for_each
@@ -402,15 +409,22 @@ module _ (U : ℕ → Type 0) (n : ℕ) (X : ℕ → Form Token (List Command)) 
   unfolding reader.read_while_true
   while_true_step = then refl (takes U n w.While refl) (λ u. then refl (value_step U n) (λ test. then refl block_step (λ all. makes U n (Some (statement.While test all)))))
 
-  command_step : Of form.command reader.read_command statement_first statement_more false
+  pub command_step : Of form.command reader.read_command statement_first statement_more false
   unfolding reader.read_command
   command_step =
       wide refl refl (chooses (hits (is w.If)) (tests w.If) refl choice_step (chooses (hits (is w.For)) (tests w.For) refl for_each_step (chooses (hits (is w.While)) (tests w.While) refl while_true_step (line_step U n))))
 
+  more_commands_step : (c : Option Command) → Of (λ m body. form.more_commands m body c) (λ m body. reader.read_more_commands m body c) statement_first (statement_first ++ statement_more) true
+  unfolding reader.read_more_commands
+  more_commands_step c = wide refl refl (then refl (each (among begins_statement) statement_is refl command_step) (λ more. makes U n (kept (c ∷ more))))
+
+  some_commands_step : Of form.some_commands reader.read_some_commands statement_first (statement_first ++ statement_more) false
+  unfolding reader.read_some_commands
+  some_commands_step = wide refl refl (then refl command_step (λ c. more_commands_step c))
+
   indented_step : Of form.indented reader.read_indented (w.Newline ∷ []) [] false
   unfolding reader.read_indented
-  indented_step =
-      then refl (takes U n w.Newline refl) (λ u. then refl (takes U n w.Indent refl) (λ v. then refl command_step (λ c. then refl (each (among begins_statement) statement_is refl command_step) (λ more. then refl (takes U n w.Dedent refl) (λ x. makes U n (kept (c ∷ more)))))))
+  indented_step = then refl (takes U n w.Newline refl) (λ u. then refl (takes U n w.Indent refl) (λ v. then refl some_commands_step (λ all. then refl (takes U n w.Dedent refl) (λ x. makes U n all))))
 
   alone_step : Of form.alone reader.read_alone simple_first [] false
   unfolding reader.read_alone
@@ -463,13 +477,16 @@ unfolding behind_colon read_behind_colon
 blocks_at zero = blocks_zero
 blocks_at (suc n) = from_outside n behind_colon read_behind_colon blocks_up behind_some (commands_at n (blocks_at n))
 
+body_at : (n : ℕ) → Inward OnBlock n behind_colon read_behind_colon block_first [] false
+body_at n = one_further n _ _ (λ j u. u) (blocks_at n) behind_some no_block
+
 pub block_lawful : (n : ℕ) → Lawful n a_block read_a_block (set (w.Colon ∷ [])) (set []) false
 unfolding a_block
-block_lawful n = (block_step OnBlock n behind_colon read_behind_colon (one_further n _ _ (λ j u. u) (blocks_at n) behind_some no_block)).rule.law blocks_up
+block_lawful n = (block_step OnBlock n behind_colon read_behind_colon (body_at n)).rule.law blocks_up
 
 pub block_dives : (n : ℕ) → Dives ⊥ n a_block read_a_block
 unfolding a_block
-block_dives n = (block_step OnBlock n behind_colon read_behind_colon (one_further n _ _ (λ j u. u) (blocks_at n) behind_some no_block)).dives blocks_up
+block_dives n = (block_step OnBlock n behind_colon read_behind_colon (body_at n)).dives blocks_up
 
 pub block_brief : Brief a_block
 unfolding a_block
@@ -495,3 +512,10 @@ another_short n =
 pub another_part_short : (n : ℕ) → Shrinks (reader.read_another_part n (read_inner_annotation n))
 another_part_short n =
     shrinks_of n (λ m. form.another_part m (inner_annotation m)) (λ m. reader.read_another_part m (read_inner_annotation m)) _ _ ((another_part_step On n inner_annotation read_inner_annotation (inside_at n (annotations_at n))).rule.law annotations_up)
+
+pub another_branch_short : (n : ℕ) → Shrinks (reader.read_another_branch n (read_behind_colon n))
+another_branch_short n =
+    shrinks_of n (λ m. form.another_branch m (behind_colon m)) (λ m. reader.read_another_branch m (read_behind_colon m)) _ _ ((another_branch_step OnBlock n behind_colon read_behind_colon (body_at n)).rule.law blocks_up)
+
+pub command_short : (n : ℕ) → Shrinks (reader.read_command n (read_behind_colon n))
+command_short n = shrinks_of n (λ m. form.command m (behind_colon m)) (λ m. reader.read_command m (read_behind_colon m)) _ _ ((command_step OnBlock n behind_colon read_behind_colon (body_at n)).rule.law blocks_up)

@@ -13,6 +13,10 @@ use Rattle.rd_parse.specs.declared.tree.Comparison.{Comparison}
 use Rattle.rd_parse.specs.declared.tree.Comparison.TheVariants.{Eq, Ne, Lt, Le, Gt, Ge, In, NotIn}
 use Rattle.rd_parse.specs.declared.tree.Node.{Node}
 use Rattle.rd_parse.specs.declared.tree.Node.TheVariants as node
+use Rattle.rd_parse.specs.declared.expression.arguments.Given.{Given}
+use Rattle.rd_parse.specs.declared.expression.arguments.Given.TheVariants as given
+use Rattle.rd_parse.specs.declared.expression.build.Part.{Part}
+use Rattle.rd_parse.specs.declared.expression.build.Part.TheVariants as part
 use Rattle.rd_parse.specs.Form.{Form, ◌>>=◌, one, yields, either, many, never, opening, tail, more}
 use Rattle.rd_parse.specs.Terminal.{terminal, is, word_of, name_of, text_of, number_of, this_word}
 
@@ -128,29 +132,67 @@ abbrev pub ored : Tree → List Tree → Tree
 ored first [] = first
 ored first (e ∷ es) = node.Or (first ∷ e ∷ es)
 
--- an argument of a call
-pub data Argument : Type 0 where
-  Positional : Tree → Argument
-  Keyword : Name → Tree → Argument
-
 -- whether keywords were begun
-abbrev pub behind : Bool → Argument → Bool
-behind s (Positional e) = s
-behind s (Keyword name e) = true
+abbrev pub behind : Bool → Given → Bool
+behind s (given.Positional e) = s
+behind s (given.Keyword name e) = true
 
 -- the arguments by position, and those by name
 abbrev pub Arguments : Type 0
 Arguments = List Tree × List (Name × Tree)
 
-abbrev pub with_argument : Argument → Arguments → Arguments
-with_argument (Positional e) all = (e ∷ all.0, all.1)
-with_argument (Keyword name e) all = (all.0, (name, e) ∷ all.1)
+abbrev pub with_argument : Given → Arguments → Arguments
+with_argument (given.Positional e) all = (e ∷ all.0, all.1)
+with_argument (given.Keyword name e) all = (all.0, (name, e) ∷ all.1)
 
-abbrev pub sorted : List Argument → Arguments
+abbrev pub sorted : List Given → Arguments
 sorted [] = ([], [])
 sorted (a ∷ more) = with_argument a (sorted more)
 
+abbrev pub called : Name → List Given → Tree
+called name all = node.Call name (sorted all).0 (sorted all).1
+
+-- the name of a comprehension and what it goes through, and the condition
+abbrev pub Clause : Type 0
+Clause = (Name × Tree) × List Tree
+
+abbrev pub comp : Tree → Clause → Tree
+comp e c = node.Comp e c.0.0 c.0.1 c.1
+
+abbrev pub with_part : Tree → Part → Tree
+with_part receiver (part.Index e) = node.Index receiver e
+with_part receiver (part.Method name all) = node.Method receiver name all
+with_part receiver part.Path = node.Path receiver
+
 -- ---- the rules
+
+-- INT
+abbrev pub number : Form Token Tree
+number = do z ← one number_of; yields (node.Lit (value.Int z))
+
+-- { TEXT }, joined to what was read
+abbrev pub more_texts : List ℕ → Form Token (List ℕ)
+more_texts t = do more ← many (one text_of); yields (t ++ joined more)
+
+-- TEXT more_texts
+abbrev pub texts : Form Token (List ℕ)
+texts = do t ← one text_of; more_texts t
+
+-- texts
+abbrev pub text_literal : Form Token Tree
+text_literal = do t ← texts; yields (node.Lit (value.Text t))
+
+-- `None` | `True` | `False`
+abbrev pub constant : Form Token Tree
+constant = do v ← one constant_of; yields (node.Lit v)
+
+-- `not` `in`
+abbrev pub not_in : Form Token Comparison
+not_in = do u ← one (is w.Not); v ← one (is w.In); yields NotIn
+
+-- `==` | `!=` | `<` | `<=` | `>` | `>=` | `in` | not_in
+abbrev pub comparing : Form Token Comparison
+comparing = either (one comparison_of) not_in
 
 -- the forms of what stands one level further in
 pub record Level : Type 1 where
@@ -161,50 +203,42 @@ pub record Level : Type 1 where
   pub parts : Tree → Form Token Tree
 
 module _ (n : ℕ) (in_ : Level) where
-  -- expression { `,` expression } [`,`], or nothing
+  -- what was read, then { `,` expression } [`,`]
+  abbrev pub more_expressions : Tree → Form Token (List Tree)
+  more_expressions first = do more ← more (is w.Comma) in_.expression; yields (first ∷ more)
+
+  -- expression more_expressions, or nothing
   abbrev pub expressions : Form Token (List Tree)
-  expressions = either (do first ← in_.expression; more ← more (is w.Comma) in_.expression; yields (first ∷ more)) (yields [])
+  expressions = either (do first ← in_.expression; more_expressions first) (yields [])
 
   -- NAME `=` expression
-  abbrev pub keyword : Form Token Argument
-  keyword = do name ← one name_of; u ← one (is w.Assign); e ← in_.expression; yields (Keyword name e)
+  abbrev pub keyword : Form Token Given
+  keyword = do name ← one name_of; u ← one (is w.Assign); e ← in_.expression; yields (given.Keyword name e)
 
   -- expression
-  abbrev pub positional : Form Token Argument
-  positional = do e ← in_.expression; yields (Positional e)
+  abbrev pub positional : Form Token Given
+  positional = do e ← in_.expression; yields (given.Positional e)
 
   -- an argument by name, or by position where no keyword was begun
-  abbrev pub argument : Bool → Form Token Argument
+  abbrev pub argument : Bool → Form Token Given
   argument false = either keyword positional
   argument true = keyword
 
-  -- { `,` argument } [`,`]
-  abbrev pub more_arguments : Bool → Form Token (List Argument)
-  more_arguments s = tail (is w.Comma) argument behind s
+  -- what was read, then { `,` argument } [`,`]
+  abbrev pub more_arguments : Given → Form Token (List Given)
+  more_arguments first = do more ← tail (is w.Comma) argument behind (behind false first); yields (first ∷ more)
 
   -- argument more_arguments, or nothing
-  abbrev pub arguments : Form Token Arguments
-  arguments = either (do first ← argument false; more ← more_arguments (behind false first); yields (sorted (first ∷ more))) (yields ([], []))
+  abbrev pub arguments : Form Token (List Given)
+  arguments = either (do first ← argument false; more_arguments first) (yields [])
 
   -- `(` arguments `)`
-  abbrev pub call : Name → Form Token Tree
-  call name = do u ← opening (is w.LeftParen) n; all ← arguments; v ← one (is w.RightParen); yields (node.Call name all.0 all.1)
+  abbrev pub call : Form Token (List Given)
+  call = do u ← opening (is w.LeftParen) n; all ← arguments; v ← one (is w.RightParen); yields all
 
   -- NAME [ call ]
   abbrev pub named : Form Token Tree
-  named = do name ← one name_of; either (call name) (yields (node.Name name))
-
-  -- INT
-  abbrev pub number : Form Token Tree
-  number = do z ← one number_of; yields (node.Lit (value.Int z))
-
-  -- TEXT { TEXT }
-  abbrev pub texts : Form Token Tree
-  texts = do first ← one text_of; more ← many (one text_of); yields (node.Lit (value.Text (joined (first ∷ more))))
-
-  -- `None` | `True` | `False`
-  abbrev pub constant : Form Token Tree
-  constant = do v ← one constant_of; yields (node.Lit v)
+  named = do name ← one name_of; either (do all ← call; yields (called name all)) (yields (node.Name name))
 
   -- `(` expression `)`
   abbrev pub group : Form Token Tree
@@ -214,17 +248,21 @@ module _ (n : ℕ) (in_ : Level) where
   abbrev pub condition : Form Token (List Tree)
   condition = either (do u ← one (is w.If); e ← in_.disjunction; yields (e ∷ [])) (yields [])
 
-  -- `for` NAME `in` disjunction condition
-  abbrev pub comprehension : Tree → Form Token Tree
-  comprehension e = do u ← one (is w.For); name ← one name_of; v ← one (is w.In); iterable ← in_.disjunction; c ← condition; yields (node.Comp e name iterable c)
+  -- `for` NAME `in` disjunction
+  abbrev pub source : Form Token (Name × Tree)
+  source = do u ← one (is w.For); name ← one name_of; v ← one (is w.In); e ← in_.disjunction; yields (name, e)
 
-  -- { `,` expression } [`,`]
-  abbrev pub list_behind : Tree → Form Token Tree
-  list_behind first = do more ← more (is w.Comma) in_.expression; yields (node.List (first ∷ more))
+  -- source condition
+  abbrev pub clause : Form Token Clause
+  clause = do s ← source; c ← condition; yields (s, c)
 
-  -- expression comprehension, or expressions
+  -- what was read with more_expressions
+  abbrev pub list_of : Tree → Form Token Tree
+  list_of first = do all ← more_expressions first; yields (node.List all)
+
+  -- expression ( clause | list_of ), or nothing
   abbrev pub items : Form Token Tree
-  items = either (do first ← in_.expression; either (comprehension first) (list_behind first)) (yields (node.List []))
+  items = either (do first ← in_.expression; either (do c ← clause; yields (comp first c)) (list_of first)) (yields (node.List []))
 
   -- `[` items `]`
   abbrev pub square : Form Token Tree
@@ -234,41 +272,49 @@ module _ (n : ℕ) (in_ : Level) where
   abbrev pub pair : Form Token (Tree × Tree)
   pair = do key ← in_.expression; u ← one (is w.Colon); e ← in_.expression; yields (key, e)
 
-  -- pair { `,` pair } [`,`], or nothing
+  -- what was read, then { `,` pair } [`,`]
+  abbrev pub more_pairs : Tree × Tree → Form Token (List (Tree × Tree))
+  more_pairs first = do more ← more (is w.Comma) pair; yields (first ∷ more)
+
+  -- pair more_pairs, or nothing
   abbrev pub pairs : Form Token (List (Tree × Tree))
-  pairs = either (do first ← pair; more ← more (is w.Comma) pair; yields (first ∷ more)) (yields [])
+  pairs = either (do first ← pair; more_pairs first) (yields [])
 
   -- `{` pairs `}`
   abbrev pub curly : Form Token Tree
   curly = do u ← opening (is w.LeftCurly) n; all ← pairs; v ← one (is w.RightCurly); yields (node.Dict all)
 
-  -- named | number | texts | constant | group | square | curly
+  -- named | number | text_literal | constant | group | square | curly
   abbrev pub atom : Form Token Tree
-  atom = either named (either number (either texts (either constant (either group (either square curly)))))
+  atom = either named (either number (either text_literal (either constant (either group (either square curly)))))
 
   -- `[` expression `]`
-  abbrev pub index : Tree → Form Token Tree
-  index receiver = do u ← opening (is w.LeftSquare) n; e ← in_.expression; v ← one (is w.RightSquare); yields (node.Index receiver e)
+  abbrev pub index : Form Token Part
+  index = do u ← opening (is w.LeftSquare) n; e ← in_.expression; v ← one (is w.RightSquare); yields (part.Index e)
 
-  -- NAME `(` expressions `)`
-  abbrev pub method : Tree → Form Token Tree
-  method receiver = do name ← one word_of; u ← opening (is w.LeftParen) n; all ← expressions; v ← one (is w.RightParen); yields (node.Method receiver name all)
+  -- `(` expressions `)`
+  abbrev pub list_in_brackets : Form Token (List Tree)
+  list_in_brackets = do u ← opening (is w.LeftParen) n; all ← expressions; v ← one (is w.RightParen); yields all
+
+  -- NAME list_in_brackets
+  abbrev pub method : Form Token Part
+  method = do name ← one word_of; all ← list_in_brackets; yields (part.Method name all)
 
   -- `path`
-  abbrev pub path : Tree → Form Token Tree
-  path receiver = do u ← opening path_word n; yields (node.Path receiver)
+  abbrev pub path : Form Token Part
+  path = do u ← opening path_word n; yields part.Path
 
   -- `.` path, or `.` method
-  abbrev pub dotted : Tree → Form Token Tree
-  dotted receiver = do u ← one (is w.Dot); either (path receiver) (method receiver)
+  abbrev pub dotted : Form Token Part
+  dotted = do u ← one (is w.Dot); either path method
 
   -- index | dotted
-  abbrev pub part : Tree → Form Token Tree
-  part receiver = either (index receiver) (dotted receiver)
+  abbrev pub any_part : Form Token Part
+  any_part = either index dotted
 
-  -- { part }, where each finished one is a level that stays open
+  -- { any_part }, where each finished one is a level that stays open
   abbrev pub parts : Tree → Form Token Tree
-  parts receiver = either (do e ← part receiver; in_.parts e) (yields receiver)
+  parts receiver = either (do p ← any_part; in_.parts (with_part receiver p)) (yields receiver)
 
   -- atom parts
   abbrev pub postfix : Form Token Tree
@@ -298,17 +344,13 @@ module _ (n : ℕ) (in_ : Level) where
   abbrev pub sum : Form Token Tree
   sum = do first ← term; more ← many plus; yields (chained first more)
 
-  -- `not` `in`
-  abbrev pub not_in : Form Token Comparison
-  not_in = do u ← one (is w.Not); v ← one (is w.In); yields NotIn
+  -- comparing sum
+  abbrev pub right_side : Form Token (Comparison × Tree)
+  right_side = do operator ← comparing; right ← sum; yields (operator, right)
 
-  -- `==` | `!=` | `<` | `<=` | `>` | `>=` | `in` | not_in
-  abbrev pub comparing : Form Token Comparison
-  comparing = either (one comparison_of) not_in
-
-  -- sum [ comparing sum ]
+  -- sum [ right_side ]
   abbrev pub comparison : Form Token Tree
-  comparison = do left ← sum; either (do operator ← comparing; right ← sum; yields (node.Compare operator left right)) (yields left)
+  comparison = do left ← sum; either (do r ← right_side; yields (node.Compare r.0 left r.1)) (yields left)
 
   -- `not` inversion
   abbrev pub negation : Form Token Tree
@@ -334,9 +376,13 @@ module _ (n : ℕ) (in_ : Level) where
   abbrev pub disjunction : Form Token Tree
   disjunction = do first ← conjunction; more ← many or_operand; yields (ored first more)
 
-  -- disjunction [ `if` disjunction `else` expression ]
+  -- `if` disjunction `else` expression
+  abbrev pub choice : Form Token (Tree × Tree)
+  choice = do u ← one (is w.If); test ← disjunction; v ← opening (is w.Else) n; e ← in_.expression; yields (test, e)
+
+  -- disjunction [ choice ]
   abbrev pub conditional : Form Token Tree
-  conditional = do first ← disjunction; either (do u ← one (is w.If); test ← disjunction; v ← opening (is w.Else) n; e ← in_.expression; yields (node.Cond test first e)) (yields first)
+  conditional = do first ← disjunction; either (do c ← choice; yields (node.Cond c.0 first c.1)) (yields first)
 
 -- the forms one level further in, where so many levels may be open
 unfoldable pub level : ℕ → Level

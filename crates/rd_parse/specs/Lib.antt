@@ -1,5 +1,6 @@
 pub mod Modules
 pub mod ModuleReading
+pub mod Refusals
 pub mod Such
 pub mod Literals
 pub mod LiteralReading
@@ -13,3 +14,5 @@ pub mod Gives
 pub mod Terminal
 pub mod Expressions
 pub mod Reading
+pub mod Nests
+pub mod Blocks

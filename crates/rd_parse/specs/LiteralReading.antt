@@ -3,14 +3,12 @@ use Rattle.std.specs.Prelude.{pos, neg_ℤ, ℕ, zero, suc, List, [], ◌∷◌,
 use Rattle.rd_syntax.specs.declared.token.Token.{Token}
 use Rattle.rd_value.specs.declared.value.Datum.TheVariants as value
 use Rattle.rd_parse.specs.declared.terminal.Terminal.TheVariants as w
-use Rattle.rd_parse.specs.Reader.{Reader, hits, ◌>>=◌, pure, read_one, read_either, read_many, read_opening, read_below, read_more, read_tail, too_deep}
+use Rattle.rd_parse.specs.Reader.{Reader, hits, ◌>>=◌, pure, read_one, read_either, read_opening, read_below, read_more, read_tail, too_deep}
 use Rattle.rd_parse.specs.Such.{read_such}
 use Rattle.rd_parse.specs.Terminal.{is, among, greatest, text_of, number_of}
-use Rattle.rd_parse.specs.Expressions.{joined, constant_of}
+use Rattle.rd_parse.specs.Expressions.{constant_of}
+use Rattle.rd_parse.specs.Reading.{read_texts}
 use Rattle.rd_parse.specs.Literals.{Literal, Pair, new_number, new_text, number_key_of, negative_key_of, with_key, begins_literal, begins_plain, begins_key}
-
-unfoldable pub read_texts : Reader Token (List ℕ)
-read_texts = do first ← read_one text_of; more ← read_many (hits text_of) (read_one text_of); pure (joined (first ∷ more))
 
 unfoldable pub read_text : Reader Token Literal
 read_text = do t ← read_texts; pure (value.Text t)
@@ -61,8 +59,11 @@ module _ (keys : List Literal) where
 -- ---- deep literals
 
 module _ (n : ℕ) (inside : Reader Token Literal) where
+  unfoldable pub read_more_items : Literal → Reader Token (List Literal)
+  read_more_items first = do more ← read_more (is w.Comma) (among begins_literal) inside; pure (first ∷ more)
+
   unfoldable pub read_items : Reader Token (List Literal)
-  read_items = read_either (among begins_literal) (do first ← inside; more ← read_more (is w.Comma) (among begins_literal) inside; pure (first ∷ more)) (pure [])
+  read_items = read_either (among begins_literal) (do first ← inside; read_more_items first) (pure [])
 
   unfoldable pub read_square : Reader Token Literal
   read_square = do u ← read_opening (is w.LeftSquare) n; all ← read_items; v ← read_one (is w.RightSquare); pure (value.List all)
@@ -73,8 +74,11 @@ module _ (n : ℕ) (inside : Reader Token Literal) where
   abbrev pub read_more_pairs : List Literal → Reader Token (List Pair)
   read_more_pairs keys = read_tail (is w.Comma) (λ s. among begins_key) read_pair with_key keys
 
+  unfoldable pub read_pairs_from : List Literal → Pair → Reader Token (List Pair)
+  read_pairs_from keys first = do more ← read_more_pairs keys; pure (first ∷ more)
+
   unfoldable pub read_pairs : Reader Token (List Pair)
-  read_pairs = read_either (among begins_key) (do first ← read_pair []; more ← read_more_pairs (with_key [] first); pure (first ∷ more)) (pure [])
+  read_pairs = read_either (among begins_key) (do first ← read_pair []; read_pairs_from (with_key [] first) first) (pure [])
 
   unfoldable pub read_curly : Reader Token Literal
   read_curly = do u ← read_opening (is w.LeftCurly) n; all ← read_pairs; v ← read_one (is w.RightCurly); pure (value.Dict all)

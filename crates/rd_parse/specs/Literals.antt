@@ -1,17 +1,19 @@
 -- The grammar of literal values. A number says how many levels may be open.
-use Rattle.std.specs.Prelude.{ℤ, neg_ℤ, ℕ, zero, suc, List, [], ◌∷◌, Option, Some, None, Bool, true, false, not, ◌||◌, if◌then◌else◌}
+use Rattle.std.specs.Prelude.{◌≡◌, ℤ, neg_ℤ, ℕ, zero, suc, List, [], ◌∷◌, ◌++◌, Option, Some, None, Bool, true, false, not, ◌||◌, if◌then◌else◌}
 use Rattle.std.specs.Ordering.{int_eq}
 use Rattle.std.specs.Str.{bytes_eq}
 use Rattle.rd_syntax.specs.declared.token.Token.{Token}
 use Rattle.rd_value.specs.declared.value.FileValue.{FileValue}
 use Rattle.rd_value.specs.declared.value.Datum.{Datum}
 use Rattle.rd_value.specs.declared.value.Datum.TheVariants as value
+use Rattle.rd_value.specs.Limits.{is_within}
+use Rattle.rd_syntax.specs.Sources.{Lexes}
 use Rattle.rd_parse.specs.declared.terminal.Terminal.{Terminal}
 use Rattle.rd_parse.specs.declared.terminal.Terminal.TheVariants as w
-use Rattle.rd_parse.specs.Form.{Form, ◌>>=◌, one, yields, either, many, never, opening, below, tail, more, IsText}
+use Rattle.rd_parse.specs.Form.{Form, ◌>>=◌, one, yields, either, never, opening, below, tail, more, IsText}
 use Rattle.rd_parse.specs.Such.{such}
-use Rattle.rd_parse.specs.Terminal.{is, text_of, number_of}
-use Rattle.rd_parse.specs.Expressions.{joined, constant_of}
+use Rattle.rd_parse.specs.Terminal.{is, number_of}
+use Rattle.rd_parse.specs.Expressions.{texts, constant_of}
 
 -- a value that stands in a source
 abbrev pub Literal : Type 0
@@ -19,11 +21,7 @@ Literal = Datum FileValue
 
 -- ---- plain literals
 
--- TEXT { TEXT }
-abbrev pub texts : Form Token (List ℕ)
-texts = do first ← one text_of; more ← many (one text_of); yields (joined (first ∷ more))
-
--- TEXT { TEXT } as a value
+-- texts as a value
 abbrev pub text : Form Token Literal
 text = do t ← texts; yields (value.Text t)
 
@@ -81,7 +79,7 @@ module _ (keys : List Literal) where
   abbrev pub negative_key : ℕ → Form Token Literal
   negative_key n = do u ← opening (is w.Minus) n; z ← one (negative_key_of keys); yields (value.Int (neg_ℤ z))
 
-  -- TEXT { TEXT }
+  -- texts
   abbrev pub text_key : Form Token Literal
   text_key = do t ← such (new_text keys) texts; yields (value.Text t)
 
@@ -96,7 +94,7 @@ abbrev pub Pair : Type 0
 Pair = Literal × Literal
 
 abbrev pub with_key : List Literal → Pair → List Literal
-with_key keys p = p.0 ∷ keys
+with_key keys p = keys ++ p.0 ∷ []
 
 -- the tokens that may begin a deep literal
 abbrev pub begins_literal : Terminal → Bool
@@ -128,9 +126,13 @@ begins_key w.Text = true
 begins_key _ = false
 
 module _ (n : ℕ) (inside : Form Token Literal) where
-  -- inside { `,` inside } [`,`], or nothing
+  -- what was read, then { `,` inside } [`,`]
+  abbrev pub more_items : Literal → Form Token (List Literal)
+  more_items first = do more ← more (is w.Comma) inside; yields (first ∷ more)
+
+  -- inside more_items, or nothing
   abbrev pub items : Form Token (List Literal)
-  items = either (do first ← inside; more ← more (is w.Comma) inside; yields (first ∷ more)) (yields [])
+  items = either (do first ← inside; more_items first) (yields [])
 
   -- `[` items `]`
   abbrev pub square : Form Token Literal
@@ -144,9 +146,13 @@ module _ (n : ℕ) (inside : Form Token Literal) where
   abbrev pub more_pairs : List Literal → Form Token (List Pair)
   more_pairs keys = tail (is w.Comma) pair with_key keys
 
-  -- pair more_pairs, or nothing
+  -- what was read, then more_pairs
+  abbrev pub pairs_from : List Literal → Pair → Form Token (List Pair)
+  pairs_from keys first = do more ← more_pairs keys; yields (first ∷ more)
+
+  -- pair pairs_from, or nothing
   abbrev pub pairs : Form Token (List Pair)
-  pairs = either (do first ← pair []; more ← more_pairs (with_key [] first); yields (first ∷ more)) (yields [])
+  pairs = either (do first ← pair []; pairs_from (with_key [] first) first) (yields [])
 
   -- `{` pairs `}`
   abbrev pub curly : Form Token Literal
@@ -171,3 +177,10 @@ literal_text n = do v ← deep_literal n; u ← one (is w.Newline); x ← one (i
 -- the tokens spell the literal alone, and no more than 64 levels are open anywhere in it
 unfoldable pub IsLiteral : List Token → Literal → Type 0
 IsLiteral ts v = IsText literal_text 64 v ts
+
+-- The text spells the value alone, and the value is within the limits of a value.
+pub record Spells (text : List ℕ) (v : Literal) : Type 0 where
+  pub tokens : List Token
+  pub lexes : Lexes text tokens
+  pub literal : IsLiteral tokens v
+  pub within : is_within (λ f. f) v ≡ true

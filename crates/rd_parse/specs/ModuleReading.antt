@@ -7,23 +7,32 @@ use Rattle.rd_parse.specs.declared.tree.Parameter.{Parameter}
 use Rattle.rd_parse.specs.declared.tree.TaskOption.{TaskOption}
 use Rattle.rd_parse.specs.declared.tree.Function.{Function}
 use Rattle.rd_parse.specs.declared.tree.Module.{Module}
+use Rattle.rd_parse.specs.declared.module.build.Part.{Part}
+use Rattle.rd_parse.specs.declared.module.build.Part.TheVariants.{Silent, Namespace, Defined}
 use Rattle.rd_parse.specs.Reader.{read_made, Reader, hits, ◌>>=◌, pure, read_one, read_either, read_many, read_opening, read_below, read_more, read_tail}
 use Rattle.rd_parse.specs.Noting.{read_past}
 use Rattle.rd_parse.specs.Terminal.{is, among, name_of, text_of}
-use Rattle.rd_parse.specs.LiteralReading.{read_literal, read_inner_literal, read_texts}
+use Rattle.rd_parse.specs.Reading.{read_texts}
+use Rattle.rd_parse.specs.LiteralReading.{read_literal, read_inner_literal}
 use Rattle.rd_parse.specs.StatementReading.{read_annotation, read_annotated, read_a_block}
-use Rattle.rd_parse.specs.Modules.{line_of, namespace_of, task_word, redun_word, defaulted, Head, at_line, function_of, Part, Silent, Namespace, Defined, module_of, begins_part}
+use Rattle.rd_parse.specs.Modules.{line_of, namespace_of, task_word, redun_word, defaulted, Head, at_line, function_of, module_of, begins_part}
 
 -- ---- options
 
 unfoldable pub read_option : ℕ → Reader Token TaskOption
 read_option n = do name ← read_one name_of; u ← read_one (is w.Assign); v ← read_inner_literal n; pure (record { name = name; value = v })
 
+unfoldable pub read_more_options : ℕ → TaskOption → Reader Token (List TaskOption)
+read_more_options n first = do more ← read_more (is w.Comma) (hits (is w.Name)) (read_option n); pure (first ∷ more)
+
 unfoldable pub read_options : ℕ → Reader Token (List TaskOption)
-read_options n = read_either (hits name_of) (do first ← read_option n; more ← read_more (is w.Comma) (hits name_of) (read_option n); pure (first ∷ more)) (pure [])
+read_options n = read_either (hits (is w.Name)) (do first ← read_option n; read_more_options n first) (pure [])
+
+unfoldable pub read_options_in_brackets : ℕ → Reader Token (List TaskOption)
+read_options_in_brackets n = do u ← read_opening (is w.LeftParen) n; all ← read_options n; v ← read_one (is w.RightParen); pure all
 
 unfoldable pub read_given_options : ℕ → Reader Token (List TaskOption)
-read_given_options n = read_either (hits (is w.LeftParen)) (do u ← read_opening (is w.LeftParen) n; all ← read_options n; v ← read_one (is w.RightParen); pure all) (pure [])
+read_given_options n = read_either (hits (is w.LeftParen)) (read_options_in_brackets n) (pure [])
 
 unfoldable pub read_decorator : ℕ → Reader Token (Option (List TaskOption))
 read_decorator n = do u ← read_one (is w.At); v ← read_one task_word; all ← read_given_options n; x ← read_one (is w.Newline); pure (Some all)
@@ -43,11 +52,17 @@ read_default_for n name true = read_with_default n name
 unfoldable pub read_parameter : ℕ → Bool → Reader Token Parameter
 read_parameter n s = do name ← read_one name_of; u ← read_below read_annotated n; read_default_for n name s
 
-abbrev pub read_more_parameters : ℕ → Bool → Reader Token (List Parameter)
-read_more_parameters n s = read_tail (is w.Comma) (λ s. hits name_of) (read_parameter n) defaulted s
+abbrev pub read_parameters_behind : ℕ → Bool → Reader Token (List Parameter)
+read_parameters_behind n s = read_tail (is w.Comma) (λ s. hits (is w.Name)) (read_parameter n) defaulted s
+
+unfoldable pub read_more_parameters : ℕ → Parameter → Reader Token (List Parameter)
+read_more_parameters n first = do more ← read_parameters_behind n (defaulted false first); pure (first ∷ more)
 
 unfoldable pub read_parameters : ℕ → Reader Token (List Parameter)
-read_parameters n = read_either (hits name_of) (do first ← read_parameter n false; more ← read_more_parameters n (defaulted false first); pure (first ∷ more)) (pure [])
+read_parameters n = read_either (hits (is w.Name)) (do first ← read_parameter n false; read_more_parameters n first) (pure [])
+
+unfoldable pub read_parameters_in_brackets : ℕ → Reader Token (List Parameter)
+read_parameters_in_brackets n = do u ← read_opening (is w.LeftParen) n; all ← read_parameters n; v ← read_one (is w.RightParen); pure all
 
 -- ---- functions
 
@@ -55,14 +70,7 @@ unfoldable pub read_returned : ℕ → Reader Token (Unit {0})
 read_returned n = read_either (hits (is w.Arrow)) (do u ← read_one (is w.Arrow); read_annotation n) (pure tt)
 
 unfoldable pub read_head : ℕ → Reader Token Head
-read_head n = do
-  line ← read_one (line_of w.Def)
-  name ← read_one name_of
-  u ← read_opening (is w.LeftParen) n
-  all ← read_parameters n
-  v ← read_one (is w.RightParen)
-  x ← read_returned n
-  pure (at_line name line, all)
+read_head n = do line ← read_one (line_of w.Def); name ← read_one name_of; all ← read_parameters_in_brackets n; u ← read_returned n; pure (at_line name line, all)
 
 unfoldable pub read_function : ℕ → Reader Token Function
 read_function n = do task ← read_decorated n; x ← read_head n; body ← read_a_block n; pure (function_of task x body)
@@ -111,7 +119,7 @@ unfoldable pub read_defines : ℕ → Reader Token Part
 read_defines n = do f ← read_function n; pure (Defined f)
 
 unfoldable pub read_part : ℕ → Reader Token Part
-read_part n = read_either (hits text_of) read_docstring (read_either (hits (is w.From)) (read_imports n) (read_either (hits name_of) read_namespace (read_defines n)))
+read_part n = read_either (hits text_of) read_docstring (read_either (hits (is w.From)) (read_imports n) (read_either (hits (is w.Name)) read_namespace (read_defines n)))
 
 unfoldable pub read_module : ℕ → Reader Token Module
 read_module n = do parts ← read_many (among begins_part) (read_part n); u ← read_one (is w.End); pure (module_of parts)

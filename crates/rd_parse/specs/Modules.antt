@@ -8,10 +8,13 @@ use Rattle.rd_parse.specs.declared.tree.Parameter.{Parameter}
 use Rattle.rd_parse.specs.declared.tree.TaskOption.{TaskOption}
 use Rattle.rd_parse.specs.declared.tree.Function.{Function}
 use Rattle.rd_parse.specs.declared.tree.Module.{Module}
+use Rattle.rd_parse.specs.declared.module.build.Part.{Part}
+use Rattle.rd_parse.specs.declared.module.build.Part.TheVariants.{Silent, Namespace, Defined}
 use Rattle.rd_parse.specs.Form.{Form, ◌>>=◌, one, yields, either, many, opening, below, tail, more, IsText}
 use Rattle.rd_parse.specs.Reader.{is_there}
 use Rattle.rd_parse.specs.Terminal.{terminal, is, same, spells, name_of, this_word}
-use Rattle.rd_parse.specs.Literals.{literal, inner_literal, texts}
+use Rattle.rd_parse.specs.Expressions.{texts}
+use Rattle.rd_parse.specs.Literals.{literal, inner_literal}
 use Rattle.rd_parse.specs.Statements.{Command, annotation, annotated, a_block}
 
 -- ---- single tokens
@@ -42,13 +45,21 @@ redun_word = this_word (codes "redun")
 abbrev pub option : ℕ → Form Token TaskOption
 option n = do name ← one name_of; u ← one (is w.Assign); v ← inner_literal n; yields (record { name = name; value = v })
 
--- option { `,` option } [`,`], or nothing
-abbrev pub options : ℕ → Form Token (List TaskOption)
-options n = either (do first ← option n; more ← more (is w.Comma) (option n); yields (first ∷ more)) (yields [])
+-- { `,` option } [`,`], behind a first one
+abbrev pub more_options : ℕ → TaskOption → Form Token (List TaskOption)
+more_options n first = do more ← more (is w.Comma) (option n); yields (first ∷ more)
 
--- [ `(` options `)` ]
+-- option more_options, or nothing
+abbrev pub options : ℕ → Form Token (List TaskOption)
+options n = either (do first ← option n; more_options n first) (yields [])
+
+-- `(` options `)`
+abbrev pub options_in_brackets : ℕ → Form Token (List TaskOption)
+options_in_brackets n = do u ← opening (is w.LeftParen) n; all ← options n; v ← one (is w.RightParen); yields all
+
+-- [ options_in_brackets ]
 abbrev pub given_options : ℕ → Form Token (List TaskOption)
-given_options n = either (do u ← opening (is w.LeftParen) n; all ← options n; v ← one (is w.RightParen); yields all) (yields [])
+given_options n = either (options_in_brackets n) (yields [])
 
 -- `@` `task` given_options NEWLINE
 abbrev pub decorator : ℕ → Form Token (Option (List TaskOption))
@@ -78,12 +89,20 @@ abbrev pub defaulted : Bool → Parameter → Bool
 defaulted s p = s || is_there p.default
 
 -- { `,` parameter } [`,`]
-abbrev pub more_parameters : ℕ → Bool → Form Token (List Parameter)
-more_parameters n s = tail (is w.Comma) (parameter n) defaulted s
+abbrev pub parameters_behind : ℕ → Bool → Form Token (List Parameter)
+parameters_behind n s = tail (is w.Comma) (parameter n) defaulted s
+
+-- parameters_behind, behind a first one
+abbrev pub more_parameters : ℕ → Parameter → Form Token (List Parameter)
+more_parameters n first = do more ← parameters_behind n (defaulted false first); yields (first ∷ more)
 
 -- parameter more_parameters, or nothing
 abbrev pub parameters : ℕ → Form Token (List Parameter)
-parameters n = either (do first ← parameter n false; more ← more_parameters n (defaulted false first); yields (first ∷ more)) (yields [])
+parameters n = either (do first ← parameter n false; more_parameters n first) (yields [])
+
+-- `(` parameters `)`
+abbrev pub parameters_in_brackets : ℕ → Form Token (List Parameter)
+parameters_in_brackets n = do u ← opening (is w.LeftParen) n; all ← parameters n; v ← one (is w.RightParen); yields all
 
 -- ---- functions
 
@@ -98,16 +117,9 @@ Head = Name × List Parameter
 abbrev pub at_line : Name → ℕ → Name
 at_line name line = record { text = name.text; line = line }
 
--- `def` NAME `(` parameters `)` [ `->` annotation ]
+-- `def` NAME parameters_in_brackets returned
 abbrev pub head : ℕ → Form Token Head
-head n = do
-  line ← one (line_of w.Def)
-  name ← one name_of
-  u ← opening (is w.LeftParen) n
-  all ← parameters n
-  v ← one (is w.RightParen)
-  x ← returned n
-  yields (at_line name line, all)
+head n = do line ← one (line_of w.Def); name ← one name_of; all ← parameters_in_brackets n; u ← returned n; yields (at_line name line, all)
 
 abbrev pub function_of : Option (List TaskOption) → Head → List Command → Function
 function_of task x body = record { name = x.0; task = task; parameters = x.1; body = body }
@@ -153,12 +165,6 @@ import_line n = do
   one (is w.Newline)
 
 -- ---- modules
-
-pub data Part : Type 0 where
-  -- what leaves nothing behind
-  Silent : Part
-  Namespace : Name → Part
-  Defined : Function → Part
 
 -- import
 abbrev pub imports : ℕ → Form Token Part

@@ -57,15 +57,15 @@ read_annotated n = read_either (hits (is w.Colon)) (do u ← read_one (is w.Colo
 abbrev pub assigns : Option Token → Bool
 assigns t = holds (among begins_assignment) t
 
+unfoldable pub read_passing : Reader Token (Option Command)
+read_passing = do u ← read_one (is w.Pass); pure (Some statement.Pass)
+
 module _ (n : ℕ) where
   unfoldable pub read_returning : Reader Token (Option Command)
   read_returning = do u ← read_one (is w.Return); read_either (among begins_expression) (do e ← read_expression n; pure (Some (statement.Return (Some e)))) (pure (Some (statement.Return None)))
 
   unfoldable pub read_raising : Reader Token (Option Command)
   read_raising = do u ← read_one (is w.Raise); class ← read_one name_of; v ← read_opening (is w.LeftParen) n; e ← read_below read_expression n; x ← read_one (is w.RightParen); pure (Some (statement.Raise class e))
-
-  unfoldable pub read_passing : Reader Token (Option Command)
-  read_passing = do u ← read_one (is w.Pass); pure (Some statement.Pass)
 
   unfoldable pub read_adding : Name → Reader Token (Option Command)
   read_adding name = do u ← read_one (is w.AddAssign); e ← read_expression n; pure (Some (statement.Assign name (plus_value name e)))
@@ -106,8 +106,14 @@ module _ (n : ℕ) (body : Reader Token (List Command)) where
   unfoldable pub read_otherwise : Reader Token (List Command)
   read_otherwise = read_either (hits (is w.Else)) (do u ← read_one (is w.Else); read_block) (pure [])
 
+  unfoldable pub read_more_branches : Tree × List Command → Reader Token (List (Tree × List Command))
+  read_more_branches first = do more ← read_many (hits (is w.Elif)) read_another_branch; pure (first ∷ more)
+
+  unfoldable pub read_branches : Reader Token (List (Tree × List Command))
+  read_branches = do first ← read_branch; read_more_branches first
+
   unfoldable pub read_choice : Reader Token (Option Command)
-  read_choice = do u ← read_one (is w.If); first ← read_branch; more ← read_many (hits (is w.Elif)) read_another_branch; other ← read_otherwise; pure (Some (statement.If (first ∷ more) other))
+  read_choice = do u ← read_one (is w.If); all ← read_branches; other ← read_otherwise; pure (Some (statement.If all other))
 
   unfoldable pub read_for_each : Reader Token (Option Command)
   read_for_each = do u ← read_one (is w.For); name ← read_one name_of; v ← read_one (is w.In); iterable ← read_expression n; all ← read_block; pure (Some (statement.For name iterable all))
@@ -118,8 +124,14 @@ module _ (n : ℕ) (body : Reader Token (List Command)) where
   unfoldable pub read_command : Reader Token (Option Command)
   read_command = read_either (hits (is w.If)) read_choice (read_either (hits (is w.For)) read_for_each (read_either (hits (is w.While)) read_while_true (read_line n)))
 
+  unfoldable pub read_more_commands : Option Command → Reader Token (List Command)
+  read_more_commands first = do more ← read_many (among begins_statement) read_command; pure (kept (first ∷ more))
+
+  unfoldable pub read_some_commands : Reader Token (List Command)
+  read_some_commands = do first ← read_command; read_more_commands first
+
   unfoldable pub read_indented : Reader Token (List Command)
-  read_indented = do u ← read_one (is w.Newline); v ← read_one (is w.Indent); first ← read_command; more ← read_many (among begins_statement) read_command; x ← read_one (is w.Dedent); pure (kept (first ∷ more))
+  read_indented = do u ← read_one (is w.Newline); v ← read_one (is w.Indent); all ← read_some_commands; x ← read_one (is w.Dedent); pure all
 
   unfoldable pub read_alone : Reader Token (List Command)
   read_alone = do s ← read_line n; pure (kept (s ∷ []))

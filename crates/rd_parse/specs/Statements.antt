@@ -20,13 +20,6 @@ Command = Statement Name
 
 -- ---- annotations, of which nothing is kept
 
--- the tokens that may stand in a part of an annotation before its bracket
-abbrev pub begins_part : Terminal → Bool
-begins_part w.Name = true
-begins_part w.Nothing = true
-begins_part w.Text = true
-begins_part _ = false
-
 -- `.` NAME
 abbrev pub dotted_name : Form Token (Unit {0})
 dotted_name = do u ← one (is w.Dot); one (is w.Name)
@@ -94,6 +87,10 @@ abbrev pub spoken : Bool × Tree → Option Command
 spoken (true, e) = None
 spoken (false, e) = Some (statement.Expr e)
 
+-- `pass`
+abbrev pub passing : Form Token (Option Command)
+passing = do u ← one (is w.Pass); yields (Some statement.Pass)
+
 module _ (n : ℕ) where
   -- `return` [ expression ]
   abbrev pub returning : Form Token (Option Command)
@@ -102,10 +99,6 @@ module _ (n : ℕ) where
   -- `raise` NAME `(` expression `)`
   abbrev pub raising : Form Token (Option Command)
   raising = do u ← one (is w.Raise); class ← one name_of; v ← opening (is w.LeftParen) n; e ← below expression n; x ← one (is w.RightParen); yields (Some (statement.Raise class e))
-
-  -- `pass`
-  abbrev pub passing : Form Token (Option Command)
-  passing = do u ← one (is w.Pass); yields (Some statement.Pass)
 
   -- `+=` expression
   abbrev pub adding : Name → Form Token (Option Command)
@@ -186,9 +179,17 @@ module _ (n : ℕ) (body : Form Token (List Command)) where
   abbrev pub otherwise : Form Token (List Command)
   otherwise = either (do u ← one (is w.Else); block) (yields [])
 
-  -- `if` branch { `elif` branch } [ `else` block ]
+  -- what was read, then { another_branch }
+  abbrev pub more_branches : Tree × List Command → Form Token (List (Tree × List Command))
+  more_branches first = do more ← many another_branch; yields (first ∷ more)
+
+  -- branch more_branches
+  abbrev pub branches : Form Token (List (Tree × List Command))
+  branches = do first ← branch; more_branches first
+
+  -- `if` branches otherwise
   abbrev pub choice : Form Token (Option Command)
-  choice = do u ← one (is w.If); first ← branch; more ← many another_branch; other ← otherwise; yields (Some (statement.If (first ∷ more) other))
+  choice = do u ← one (is w.If); all ← branches; other ← otherwise; yields (Some (statement.If all other))
 
   -- `for` NAME `in` expression block
   abbrev pub for_each : Form Token (Option Command)
@@ -202,9 +203,17 @@ module _ (n : ℕ) (body : Form Token (List Command)) where
   abbrev pub command : Form Token (Option Command)
   command = either choice (either for_each (either while_true (line n)))
 
-  -- NEWLINE INDENT command { command } DEDENT
+  -- what was read, then { command }
+  abbrev pub more_commands : Option Command → Form Token (List Command)
+  more_commands first = do more ← many command; yields (kept (first ∷ more))
+
+  -- command more_commands
+  abbrev pub some_commands : Form Token (List Command)
+  some_commands = do first ← command; more_commands first
+
+  -- NEWLINE INDENT some_commands DEDENT
   abbrev pub indented : Form Token (List Command)
-  indented = do u ← one (is w.Newline); v ← one (is w.Indent); first ← command; more ← many command; x ← one (is w.Dedent); yields (kept (first ∷ more))
+  indented = do u ← one (is w.Newline); v ← one (is w.Indent); all ← some_commands; x ← one (is w.Dedent); yields all
 
   -- line
   abbrev pub alone : Form Token (List Command)

@@ -2,10 +2,20 @@
 #![tactic(auto)]
 
 mod annotation;
+mod expression;
+mod function;
 mod halt;
 mod import;
+mod literal;
+mod module;
+mod parser;
+mod statement;
 mod take;
 mod terminal;
+mod texts;
 pub mod tree;
 
 pub use halt::Halt;
+pub use literal::parse_literal;
+pub use parser::parse;
+pub use take::MAX_NESTING;

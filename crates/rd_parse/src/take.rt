@@ -5,13 +5,18 @@ ghost use Rattle.std.specs.Option.{option_map as map_option};
 ghost use Rattle.rd_parse.specs.Reader.{read_one, read_opening, hits, sees};
 ghost use Rattle.rd_parse.specs.Terminal.{is, greatest, with_digit, digits_from, number_of, name_of, text_of, word_of, this_word};
 ghost use Rattle.rd_parse.specs.Gives.{Gives, Takes};
+ghost use Rattle.rd_parse.specs.Expressions.{constant_of};
 
 use crate::halt::Halt;
 use crate::terminal::{Terminal, terminal_of};
 use crate::tree::Name;
 use rd_base::{Copies, Text};
 use rd_syntax::Token;
+use rd_value::value::Value;
 use std::alloc::Global;
+
+/// How many levels may be open at once.
+pub const MAX_NESTING: usize = 64;
 
 pub fn begins_with(tokens: &[Token], wanted: Terminal) -> bool
     ensures { result ≡ sees (hits (is wanted)) tokens.now }
@@ -152,6 +157,29 @@ pub fn number<'a>(tokens: &'a [Token]) -> Result<(i64, &'a [Token]), Halt<'a>>
                 None => Err(Halt::Refused(tokens)),
             },
             _ => Err(Halt::Refused(tokens)),
+        },
+        None => Err(Halt::Refused(tokens)),
+    }
+}
+
+fn constant_of(token: &Token) -> Option<Value>
+    ensures { result ≡ constant_of token.now }
+{
+    match terminal_of(token) {
+        Terminal::Nothing => Some(Value::Nothing),
+        Terminal::True => Some(Value::Bool(true)),
+        Terminal::False => Some(Value::Bool(false)),
+        _ => None,
+    }
+}
+
+pub fn constant<'a>(tokens: &'a [Token]) -> Result<(Value, &'a [Token]), Halt<'a>>
+    ensures { Gives (λ x. (x.0, x.1.now)) result (read_one constant_of tokens.now) }
+{
+    match tokens.split_first() {
+        Some((token, rest)) => match constant_of(token) {
+            Some(value) => Ok((value, rest)),
+            None => Err(Halt::Refused(tokens)),
         },
         None => Err(Halt::Refused(tokens)),
     }
