@@ -33,14 +33,14 @@ fn source_of(alloc: Global, bytes: usize, end: &str) -> Result<String, AllocErro
     Ok(source)
 }
 
-fn read(alloc: Global, source: &str) -> u32 {
+fn read(alloc: Global, source: &str) -> usize {
     match lex(alloc, source.as_bytes()) {
         Ok(tokens) => match parse(alloc, &tokens) {
-            Ok(module) => module.functions.len() as u32,
-            Err(SourceError::Refused { line }) => line,
+            Ok(module) => module.functions.len(),
+            Err(SourceError::Refused { line }) => line as usize,
             Err(SourceError::OutOfMemory) => 0,
         },
-        Err(SourceError::Refused { line }) => line,
+        Err(SourceError::Refused { line }) => line as usize,
         Err(SourceError::OutOfMemory) => 0,
     }
 }
