@@ -23,7 +23,7 @@ repeat_more n xs = rw add-one (by n)
     by zero = sym (append-nil xs)
     by (suc k) = append_assoc xs (repeat k xs) xs ∙ ap (λ ys. xs ++ ys) (by k)
 
-repeated_length : {A : Type 0} (n : ℕ) (xs : List A) → length (repeat n xs) ≡ n * length xs
+pub repeated_length : {A : Type 0} (n : ℕ) (xs : List A) → length (repeat n xs) ≡ n * length xs
 repeated_length zero xs = sym (zero-mul (length xs))
 repeated_length (suc n) xs = let e = repeated_length n xs in rw (suc-mul n (length xs), length-append xs (repeat n xs)) (omega arith)
 

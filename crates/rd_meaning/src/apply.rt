@@ -6,35 +6,37 @@ ghost use Rattle.rd_value.specs.Operators.{applied};
 ghost use Rattle.rd_meaning.specs.Step.{ComesTo, step_in};
 
 use crate::divide::{quotient, remainder};
-use crate::error::bad_operand;
 use crate::index::indexed;
-use crate::number::{minus, negative, number};
+use crate::number::{minus, negative};
 use crate::order::ordered;
 use crate::repeat::multiplied;
-use crate::step::{Answer, StepError, stepped};
+use crate::step::{StepError, stepped};
 use rd_base::OutOfMemory;
+use rd_value::error::bad_operand;
 use rd_value::expr::OpKind;
-use rd_value::value::{Value, Values};
+use rd_value::value::{Answer, Value, Values};
 use std::alloc::Global;
 
-fn unary(alloc: Global, op: OpKind, a: &Value) -> Result<Answer, OutOfMemory>
+/// An operator of one value.
+pub fn unary(alloc: Global, op: OpKind, a: &Value) -> Result<Answer, OutOfMemory>
     ensures { IfOk result (λ answer. answer ≡ spec.unary (λ f. f) op a.now) }
 {
     match op {
-        OpKind::Neg => negative(alloc, number(a)),
+        OpKind::Neg => negative(alloc, a.number()),
         _ => Ok(Err(bad_operand(alloc)?)),
     }
 }
 
-fn binary(alloc: Global, op: OpKind, a: &Value, b: &Value) -> Result<Answer, OutOfMemory>
+/// An operator between two values.
+pub fn binary(alloc: Global, op: OpKind, a: &Value, b: &Value) -> Result<Answer, OutOfMemory>
     ensures { IfOk result (λ answer. answer ≡ spec.binary (λ f. f) op a.now b.now) }
 {
     match op {
         OpKind::Add => a.plus(alloc, b),
-        OpKind::Sub => minus(alloc, number(a), number(b)),
+        OpKind::Sub => minus(alloc, a.number(), b.number()),
         OpKind::Mul => multiplied(alloc, a, b),
-        OpKind::FloorDiv => quotient(alloc, number(a), number(b)),
-        OpKind::Mod => remainder(alloc, number(a), number(b)),
+        OpKind::FloorDiv => quotient(alloc, a.number(), b.number()),
+        OpKind::Mod => remainder(alloc, a.number(), b.number()),
         OpKind::Neg => Ok(Err(bad_operand(alloc)?)),
         OpKind::Eq => Ok(Ok(Value::Bool(a.equal(b)))),
         OpKind::Ne => Ok(Ok(Value::Bool(!a.equal(b)))),

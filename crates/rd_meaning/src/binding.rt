@@ -7,11 +7,11 @@ ghost use Rattle.rd_value.specs.Bind.{and_then, parameters_of, with_keyword, wit
 ghost use Rattle.rd_meaning.specs.Binding.{parameter_of, slot_of, names_of, in_order, place_of};
 ghost use Rattle.rd_meaning.specs.Step.{ComesTo, step_in};
 
-use crate::error::value_limit;
 use crate::step::{StepError, stepped};
 use indexmap::IndexSet;
 use rd_base::{Copies, Items, OutOfMemory, Text};
 use rd_value::class::Class;
+use rd_value::error::value_limit;
 use rd_value::limits::are_within;
 use rd_value::raise::raised;
 use rd_value::signature::{Parameter, Signature};

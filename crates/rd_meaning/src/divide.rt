@@ -5,10 +5,9 @@ ghost use Rattle.std.specs.Int.{w64, IsNonZero, IsNonNegative};
 ghost use Rattle.rd_value.specs.Operators as spec;
 ghost use Rattle.rd_value.specs.Operators.{divided, kept_int, on_numbers};
 
-use crate::error::{bad_operand, division_by_zero, out_of_range};
-use crate::step::Answer;
 use rd_base::OutOfMemory;
-use rd_value::value::Value;
+use rd_value::error::{bad_operand, division_by_zero, out_of_range};
+use rd_value::value::{Answer, Value};
 use std::alloc::Global;
 
 // Wide numbers hold each quotient of two numbers, also that of the least number and -1.

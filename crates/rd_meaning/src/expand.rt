@@ -5,10 +5,10 @@ ghost use Rattle.rd_value.specs.Expand as spec;
 ghost use Rattle.rd_value.specs.Expand.{call_with, kept_expr};
 ghost use Rattle.rd_meaning.specs.Step.{ComesTo, step_in, error_of};
 
-use crate::error::value_limit;
 use crate::step::{StepError, stepped};
 use rd_base::{Copies, OutOfMemory, Text};
 use rd_value::class::Class;
+use rd_value::error::value_limit;
 use rd_value::expr::{Expr, Exprs, NamedExprs};
 use rd_value::failure::Failure;
 use rd_value::make::MakeError;

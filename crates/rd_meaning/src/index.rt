@@ -7,17 +7,15 @@ ghost use Rattle.rd_value.specs.declared.value.Datum.{out-Datum};
 ghost use Rattle.rd_value.specs.declared.value.FileValue.{FileValue};
 ghost use Rattle.rd_value.specs.Operators as spec;
 
-use crate::error::{bad_operand, index_out_of_range};
-use crate::number::number;
-use crate::step::Answer;
 use rd_base::{Copies, OutOfMemory, Text};
 use rd_value::class::Class;
+use rd_value::error::{bad_operand, index_out_of_range};
 use rd_value::raise::raised;
-use rd_value::value::Value;
+use rd_value::value::{Answer, Value};
 use std::alloc::Global;
 
 /// The place at an index, which counts from the end where it is negative. Past all where there is none.
-fn place(index: i64, count: usize) -> usize
+pub fn place(index: i64, count: usize) -> usize
     ensures { result ≡ spec.place index count }
 {
     match usize::try_from(index) {
@@ -87,8 +85,8 @@ pub fn indexed(alloc: Global, a: &Value, b: &Value) -> Result<Answer, OutOfMemor
     ensures { IfOk result (λ answer. answer ≡ spec.index_at (λ f. f) (out-Datum FileValue a.now) (out-Datum FileValue b.now)) }
 {
     match (a, b) {
-        (Value::Text(text), _) => character(alloc, text.as_str(), number(b)),
-        (Value::List(items), _) => item(alloc, items.as_slice(), number(b)),
+        (Value::Text(text), _) => character(alloc, text.as_str(), b.number()),
+        (Value::List(items), _) => item(alloc, items.as_slice(), b.number()),
         (Value::Dict(pairs), Value::Int(_)) => under(alloc, pairs.as_slice(), b),
         (Value::Dict(pairs), Value::Text(_)) => under(alloc, pairs.as_slice(), b),
         _ => Ok(Err(bad_operand(alloc)?)),

@@ -4,9 +4,8 @@
 mod apply;
 mod binding;
 mod divide;
-mod error;
 mod expand;
-mod index;
+pub mod index;
 mod number;
 mod order;
 mod repeat;
@@ -14,7 +13,7 @@ mod step;
 #[cfg(test)]
 mod tests;
 
-pub use apply::apply_op;
+pub use apply::{apply_op, binary, unary};
 pub use binding::{NamedValues, bind};
 pub use expand::{expand_catch, expand_map};
 pub use step::StepError;

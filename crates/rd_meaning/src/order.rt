@@ -6,12 +6,10 @@ ghost use Rattle.rd_value.specs.declared.value.FileValue.{FileValue};
 ghost use Rattle.rd_value.specs.Operators as spec;
 ghost use Rattle.rd_meaning.specs.Order.{test_of};
 
-use crate::error::bad_operand;
-use crate::number::number;
-use crate::step::Answer;
 use rd_base::OutOfMemory;
+use rd_value::error::bad_operand;
 use rd_value::expr::OpKind;
-use rd_value::value::Value;
+use rd_value::value::{Answer, Value};
 use std::alloc::Global;
 use std::cmp::Ordering;
 
@@ -21,7 +19,7 @@ fn have_order(a: &Value, b: &Value) -> bool
     match (a, b) {
         (Value::Text(_), Value::Text(_)) => true,
         (Value::List(_), Value::List(_)) => true,
-        _ => number(a).is_some() && number(b).is_some(),
+        _ => a.number().is_some() && b.number().is_some(),
     }
 }
 

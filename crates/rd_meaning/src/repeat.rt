@@ -7,23 +7,12 @@ ghost use Rattle.rd_value.specs.declared.value.FileValue.{FileValue};
 ghost use Rattle.rd_value.specs.Canon.{canon, joined};
 ghost use Rattle.rd_value.specs.Operators as spec;
 
-use crate::error::{bad_operand, value_limit};
-use crate::number::{number, product};
-use crate::step::Answer;
+use crate::number::product;
 use rd_base::{Copies, OutOfMemory, Text};
-use rd_value::limits::MAX_SIZE;
-use rd_value::value::{Value, Values};
+use rd_value::error::{bad_operand, value_limit};
+use rd_value::limits::{MAX_SIZE, kept};
+use rd_value::value::{Answer, Value, Values};
 use std::alloc::Global;
-
-fn kept(alloc: Global, value: Value) -> Result<Answer, OutOfMemory>
-    ensures { IfOk result (λ answer. answer ≡ spec.kept (λ f. f) value) }
-{
-    if value.within() {
-        Ok(Ok(value))
-    } else {
-        Ok(Err(value_limit(alloc)?))
-    }
-}
 
 /// How often something is repeated. A count below 0 is 0.
 fn times(count: i64) -> usize
@@ -97,10 +86,10 @@ pub fn multiplied(alloc: Global, a: &Value, b: &Value) -> Result<Answer, OutOfMe
     ensures { IfOk result (λ answer. answer ≡ spec.times_at (λ f. f) (out-Datum FileValue a.now) (out-Datum FileValue b.now)) }
 {
     match (a, b) {
-        (Value::Text(text), _) => repeated_text(alloc, text.as_str(), number(b)),
-        (Value::List(items), _) => repeated_list(alloc, items, number(b)),
-        (_, Value::Text(text)) => repeated_text(alloc, text.as_str(), number(a)),
-        (_, Value::List(items)) => repeated_list(alloc, items, number(a)),
-        _ => product(alloc, number(a), number(b)),
+        (Value::Text(text), _) => repeated_text(alloc, text.as_str(), b.number()),
+        (Value::List(items), _) => repeated_list(alloc, items, b.number()),
+        (_, Value::Text(text)) => repeated_text(alloc, text.as_str(), a.number()),
+        (_, Value::List(items)) => repeated_list(alloc, items, a.number()),
+        _ => product(alloc, a.number(), b.number()),
     }
 }

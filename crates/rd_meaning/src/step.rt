@@ -4,7 +4,7 @@ ghost use Rattle.rd_meaning.specs.Step.{ComesTo, step_in};
 
 use rd_base::{OutOfMemory, Text};
 use rd_value::failure::Failure;
-use rd_value::value::{ErrorValue, Value};
+use rd_value::value::ErrorValue;
 use std::alloc::Global;
 
 /// Why a step came to no value.
@@ -25,9 +25,6 @@ impl From<OutOfMemory> for StepError {
         StepError::OutOfMemory
     }
 }
-
-/// What an operation comes to where memory is left.
-pub type Answer = Result<Value, ErrorValue>;
 
 /// The answer as that of a step with this origin.
 pub fn stepped<T: Drop>(

@@ -4,6 +4,7 @@ use Rattle.std.specs.Prelude.{IfOk, IfNone}
 use Rattle.rd_base.specs.declared.memory.OutOfMemory.{OutOfMemory}
 use Rattle.rd_syntax.specs.Sources.{Lexes}
 use Rattle.rd_value.specs.Limits.{is_within}
+use Rattle.rd_syntax.proofs.Stops.{one_answer}
 use Rattle.rd_syntax.specs.declared.token.Token.{Token}
 use Rattle.rd_parse.specs.declared.tree.Module.{Module}
 use Rattle.rd_parse.specs.Form.{StopsAt}
@@ -100,6 +101,11 @@ literal_not_read ts s u e h = let no : read_literal_text 64 ts ≡ Ok (u, []) = 
 pub one_literal : (ts : List Token) (v u : Literal) → IsLiteral ts v → IsLiteral ts u → v ≡ u
 unfolding IsLiteral
 one_literal ts v u h k = one_value literal_text read_literal_text _ _ false literal_text_grows literal_text_lawful levels levels v u ts h k
+
+-- a text spells at most one value
+pub one_spelled : (text : List ℕ) (v u : Literal) → Spells text v → Spells text u → v ≡ u
+one_spelled text v u p q =
+    one_literal p.tokens v u p.literal (subst (λ (ts : List Token). IsLiteral ts u) (one_answer text q.tokens p.tokens q.lexes.has p.lexes.has) q.literal)
 
 pub literal_deep : (ts after : List Token) → read_literal_text 64 ts ≡ Err (Deep after) → TooDeep literal_text 64 ts after
 literal_deep ts after e = text_deep literal_text read_literal_text _ _ false literal_text_grows literal_text_lawful spare (literal_text_dives levels) ts after e

@@ -16,6 +16,6 @@ mod texts;
 pub mod tree;
 
 pub use halt::Halt;
-pub use literal::parse_literal;
-pub use parser::parse;
+pub use literal::{one_literal, parse_literal};
+pub use parser::{one_module, parse};
 pub use take::MAX_NESTING;

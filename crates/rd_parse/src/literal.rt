@@ -1,6 +1,6 @@
 //! Literal values. `depth` is how many levels may be open.
 
-ghost use Rattle.std.specs.Prelude.{◌≡◌, ◌++◌, ◌∷◌, [], true, IfOk, IfSome, IfNone};
+ghost use Rattle.std.specs.Prelude.{◌≡◌, ◌++◌, ◌∷◌, [], true, ℕ, List, IfOk, IfSome, IfNone};
 ghost use Rattle.rd_value.specs.Limits.{is_within};
 ghost use Rattle.rd_parse.specs.declared.terminal.Terminal.TheVariants as w;
 ghost use Rattle.rd_parse.specs.Reader.{onto, read_below, read_more, sees};
@@ -392,6 +392,11 @@ pub fn parse_literal(alloc: Global, text: &str) -> Result<Option<Value>, OutOfMe
         Err(SourceError::OutOfMemory) => Err(OutOfMemory),
     }
 }
+
+/// A text spells at most one value.
+pub fn one_literal()
+    ensures { (text : List ℕ) (v u : Literal) → Spells text v → Spells text u → v ≡ u }
+{}
 
 #[cfg(test)]
 mod tests;

@@ -1,8 +1,9 @@
 //! From tokens to modules.
 
-ghost use Rattle.std.specs.Prelude.{◌≡◌, IfOk};
+ghost use Rattle.std.specs.Prelude.{◌≡◌, IfOk, List};
 ghost use Rattle.rd_syntax.specs.Sources.{IfRefused, IsOrMemory};
 ghost use Rattle.rd_syntax.specs.declared.source.SourceError.TheVariants.{Refused};
+ghost use Rattle.rd_syntax.specs.declared.token.Token.{Token};
 ghost use Rattle.rd_parse.specs.Modules.{IsModule};
 ghost use Rattle.rd_parse.specs.Refusals.{RefusedAt, last_line, line_at};
 ghost use Rattle.rd_parse.specs.declared.tree.Module.{Module};
@@ -61,6 +62,11 @@ pub fn parse(alloc: Global, tokens: &Tokens) -> Result<Module, SourceError>
         Err(Halt::Deep(rest)) => Err(refusal(all, rest)),
     }
 }
+
+/// Tokens spell at most one module.
+pub fn one_module()
+    ensures { (tokens : List Token) (m n : Module) → IsModule tokens m → IsModule tokens n → m ≡ n }
+{}
 
 #[cfg(test)]
 mod tests;

@@ -13,6 +13,7 @@ mod words;
 
 pub use source::{MAX_SOURCE, SourceError, lex};
 pub use token::{Span, Token, TokenKind, Tokens};
+pub use words::is_reserved;
 
 #[cfg(test)]
 mod tests;

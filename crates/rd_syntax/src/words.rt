@@ -1,7 +1,8 @@
 ghost use Rattle.std.specs.Prelude.{◌≡◌};
 ghost use Rattle.rd_syntax.specs.Words as spec;
 
-pub(crate) fn is_reserved(text: &str) -> bool
+/// Whether the text is a word that is no name.
+pub fn is_reserved(text: &str) -> bool
     ensures { result ≡ spec.is_reserved text.now }
 {
     matches!(

@@ -7,6 +7,7 @@ mod compare;
 pub mod crossing;
 mod depth;
 pub mod erasure;
+pub mod error;
 pub mod expr;
 mod expr_depth;
 mod expr_size;

@@ -30,7 +30,7 @@ impl From<OutOfMemory> for MakeError {
 }
 
 /// The values of expressions, if all are values.
-fn values_of(alloc: Global, parts: &[Expr]) -> Result<Option<Values>, OutOfMemory>
+pub fn values_of(alloc: Global, parts: &[Expr]) -> Result<Option<Values>, OutOfMemory>
     ensures { IfOk result (λ o. o ≡ spec.values_of parts.now) }
 {
     let mut values = Values::new(alloc);
@@ -44,7 +44,7 @@ fn values_of(alloc: Global, parts: &[Expr]) -> Result<Option<Values>, OutOfMemor
 }
 
 /// The pairs with the values of their expressions, if all are values.
-fn pairs_of(alloc: Global, parts: &[(Value, Expr)]) -> Result<Option<Pairs>, OutOfMemory>
+pub fn pairs_of(alloc: Global, parts: &[(Value, Expr)]) -> Result<Option<Pairs>, OutOfMemory>
     ensures { IfOk result (λ o. o ≡ spec.pairs_of parts.now) }
 {
     let mut pairs = Pairs::new(alloc);

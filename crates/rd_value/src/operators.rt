@@ -2,35 +2,15 @@
 
 ghost use Rattle.std.specs.Prelude.{◌≡◌, ◌++◌, IfOk, string_bytes};
 ghost use Rattle.rd_value.specs.declared.value.Datum.{out-Datum};
+ghost use Rattle.rd_value.specs.declared.value.FileValue.{FileValue};
 ghost use Rattle.rd_value.specs.Compare.{number_at};
-ghost use Rattle.rd_value.specs.Operators.{kept, plus_numbers, plus};
+ghost use Rattle.rd_value.specs.Operators.{plus_numbers, plus};
 
-use crate::class::Class;
-use crate::value::{Datum, ErrorValue, FileValue, Value, Values};
+use crate::error::{bad_operand, out_of_range};
+use crate::limits::kept;
+use crate::value::{Answer, Value, Values};
 use rd_base::{Copies, OutOfMemory, Text};
 use std::alloc::Global;
-
-/// What an operation comes to where memory is left.
-pub type Answer = Result<Value, ErrorValue>;
-
-fn error(alloc: Global, class: Class, text: &str) -> Result<ErrorValue, OutOfMemory>
-    ensures { IfOk result (λ e. e ≡ record { class = class; text = text.now }) }
-{
-    Ok(ErrorValue {
-        class,
-        text: Text::from_str(alloc, text)?,
-    })
-}
-
-fn kept(alloc: Global, value: Value) -> Result<Answer, OutOfMemory>
-    ensures { IfOk result (λ answer. answer ≡ kept (λ f. f) value) }
-{
-    if value.within() {
-        Ok(Ok(value))
-    } else {
-        Ok(Err(error(alloc, Class::LimitError, "value")?))
-    }
-}
 
 fn plus_numbers(alloc: Global, a: Option<i64>, b: Option<i64>) -> Result<Answer, OutOfMemory>
     ensures { IfOk result (λ answer. answer ≡ plus_numbers a b) }
@@ -38,9 +18,9 @@ fn plus_numbers(alloc: Global, a: Option<i64>, b: Option<i64>) -> Result<Answer,
     match (a, b) {
         (Some(a), Some(b)) => match a.checked_add(b) {
             Some(sum) => Ok(Ok(Value::Int(sum))),
-            None => Ok(Err(error(alloc, Class::OverflowError, "out of range")?)),
+            None => Ok(Err(out_of_range(alloc)?)),
         },
-        _ => Ok(Err(error(alloc, Class::TypeError, "bad operand")?)),
+        _ => Ok(Err(bad_operand(alloc)?)),
     }
 }
 
@@ -64,7 +44,7 @@ fn joined_list(alloc: Global, a: &Values, b: &Values) -> Result<Values, OutOfMem
 
 impl Value {
     /// The number as which an operation takes it.
-    fn number(&self) -> Option<i64>
+    pub fn number(&self) -> Option<i64>
         ensures { result ≡ number_at (out-Datum FileValue self.now) }
     {
         match self {

@@ -36,6 +36,9 @@ pub type Value = Datum<FileValue>;
 
 pub type Values = Items<Value>;
 
+/// What an operation comes to where memory is left.
+pub type Answer = Result<Value, ErrorValue>;
+
 /// The keys and values of a dict.
 pub type Pairs = Items<(Value, Value)>;
 

@@ -3,10 +3,10 @@
 ghost use Rattle.std.specs.Prelude.{◌≡◌, IfOk};
 ghost use Rattle.rd_value.specs.Operators as spec;
 
+use crate::class::Class;
+use crate::raise::raised;
+use crate::value::ErrorValue;
 use rd_base::OutOfMemory;
-use rd_value::class::Class;
-use rd_value::raise::raised;
-use rd_value::value::ErrorValue;
 use std::alloc::Global;
 
 pub fn bad_operand(alloc: Global) -> Result<ErrorValue, OutOfMemory>
