@@ -1,8 +1,8 @@
 -- Trees of one operand, and of more.
 use Rattle.std.proofs.Common.{◌≡◌, ◌<◌, List, [], ◌∷◌, ◌++◌, length, refl, arith}
-use Rattle.rd_parse.specs.declared.tree.Operator.{Operator}
-use Rattle.rd_parse.specs.declared.tree.Node.TheVariants as node
-use Rattle.rd_parse.specs.declared.tree.Name.{Name}
+use Rattle.rd_tree.specs.declared.tree.Operator.{Operator}
+use Rattle.rd_tree.specs.declared.tree.Node.TheVariants as node
+use Rattle.rd_tree.specs.declared.tree.Name.{Name}
 use Rattle.rd_parse.specs.declared.expression.arguments.Given.{Given}
 use Rattle.rd_parse.specs.Expressions.{Tree, Arguments, sorted, chained, anded, ored}
 

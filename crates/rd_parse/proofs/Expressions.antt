@@ -4,9 +4,9 @@ use Rattle.rd_syntax.specs.declared.token.Token.{Token}
 use Rattle.rd_value.specs.declared.value.Datum.TheVariants as value
 use Rattle.rd_parse.specs.declared.terminal.Terminal.{Terminal}
 use Rattle.rd_parse.specs.declared.terminal.Terminal.TheVariants as w
-use Rattle.rd_parse.specs.declared.tree.Operator.TheVariants.{Add, Mul}
-use Rattle.rd_parse.specs.declared.tree.Comparison.TheVariants as compared
-use Rattle.rd_parse.specs.declared.tree.Node.TheVariants as node
+use Rattle.rd_tree.specs.declared.tree.Operator.TheVariants.{Add, Mul}
+use Rattle.rd_tree.specs.declared.tree.Comparison.TheVariants as compared
+use Rattle.rd_tree.specs.declared.tree.Node.TheVariants as node
 use Rattle.rd_parse.specs.declared.expression.arguments.Given.{Given}
 use Rattle.rd_parse.specs.declared.expression.arguments.Given.TheVariants as given
 use Rattle.rd_parse.specs.declared.expression.build.Part.{Part}

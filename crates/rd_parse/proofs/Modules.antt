@@ -5,9 +5,9 @@ use Rattle.rd_syntax.specs.declared.token.Token.{Token}
 use Rattle.rd_parse.specs.declared.terminal.Terminal.{Terminal}
 use Rattle.rd_value.specs.declared.value.Datum.TheVariants as value
 use Rattle.rd_parse.specs.declared.terminal.Terminal.TheVariants as w
-use Rattle.rd_parse.specs.declared.tree.Name.{Name}
-use Rattle.rd_parse.specs.declared.tree.TaskOption.{TaskOption}
-use Rattle.rd_parse.specs.declared.tree.Parameter.{Parameter}
+use Rattle.rd_tree.specs.declared.tree.Name.{Name}
+use Rattle.rd_tree.specs.declared.tree.TaskOption.{TaskOption}
+use Rattle.rd_tree.specs.declared.tree.Parameter.{Parameter}
 use Rattle.rd_parse.specs.Form.{Form, one, below}
 use Rattle.rd_parse.specs.Reader.{Reader, read_one, read_below, hits, is_there}
 use Rattle.rd_parse.specs.Terminal.{terminal, among, is, same, flag, spells, name_of, text_of}

@@ -2,8 +2,8 @@
 use Rattle.std.proofs.Common.{◌≡◌, ℕ, zero, suc, Bool, true, false, List, [], ◌∷◌, Some, refl, inl, inr, ◌∙◌, ◌&&◌, codes}
 use Rattle.rd_syntax.specs.declared.token.Token.{Token}
 use Rattle.rd_parse.specs.declared.terminal.Terminal.TheVariants as w
-use Rattle.rd_parse.specs.declared.tree.Name.{Name}
-use Rattle.rd_parse.specs.declared.tree.Node.TheVariants as node
+use Rattle.rd_tree.specs.declared.tree.Name.{Name}
+use Rattle.rd_tree.specs.declared.tree.Node.TheVariants as node
 use Rattle.rd_parse.specs.Form.{Form}
 use Rattle.rd_parse.specs.Reader.{hits, sees}
 use Rattle.rd_parse.specs.Terminal.{is, name_of}

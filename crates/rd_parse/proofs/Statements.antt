@@ -3,9 +3,9 @@ use Rattle.std.proofs.Common.{◌≡◌, ◌<◌, length, subst, inl, inr, Ok, E
 use Rattle.rd_syntax.specs.declared.token.Token.{Token}
 use Rattle.rd_parse.specs.declared.terminal.Terminal.{Terminal}
 use Rattle.rd_parse.specs.declared.terminal.Terminal.TheVariants as w
-use Rattle.rd_parse.specs.declared.tree.Name.{Name}
-use Rattle.rd_parse.specs.declared.tree.Node.TheVariants as node
-use Rattle.rd_parse.specs.declared.tree.Statement.TheVariants as statement
+use Rattle.rd_tree.specs.declared.tree.Name.{Name}
+use Rattle.rd_tree.specs.declared.tree.Node.TheVariants as node
+use Rattle.rd_tree.specs.declared.tree.Statement.TheVariants as statement
 use Rattle.rd_parse.specs.Form.{Form, one, below}
 use Rattle.rd_parse.specs.Reader.{Reader, read_one, read_below, Refused, hits, is_there, sees, head, pair}
 use Rattle.rd_parse.specs.Noting.{noting, every, before, read_noting}

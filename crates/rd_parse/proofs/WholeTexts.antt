@@ -6,7 +6,7 @@ use Rattle.rd_syntax.specs.Sources.{Lexes}
 use Rattle.rd_value.specs.Limits.{is_within}
 use Rattle.rd_syntax.proofs.Stops.{one_answer}
 use Rattle.rd_syntax.specs.declared.token.Token.{Token}
-use Rattle.rd_parse.specs.declared.tree.Module.{Module}
+use Rattle.rd_tree.specs.declared.tree.Module.{Module}
 use Rattle.rd_parse.specs.Form.{StopsAt}
 use Rattle.rd_parse.specs.Nesting.{TooDeep}
 use Rattle.rd_parse.specs.Reader.{Stop, Refused, Deep}

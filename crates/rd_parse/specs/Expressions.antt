@@ -6,13 +6,13 @@ use Rattle.rd_value.specs.declared.value.Datum.{Datum}
 use Rattle.rd_value.specs.declared.value.Datum.TheVariants as value
 use Rattle.rd_parse.specs.declared.terminal.Terminal.{Terminal}
 use Rattle.rd_parse.specs.declared.terminal.Terminal.TheVariants as w
-use Rattle.rd_parse.specs.declared.tree.Name.{Name}
-use Rattle.rd_parse.specs.declared.tree.Operator.{Operator}
-use Rattle.rd_parse.specs.declared.tree.Operator.TheVariants.{Add, Sub, Mul, FloorDiv, Mod}
-use Rattle.rd_parse.specs.declared.tree.Comparison.{Comparison}
-use Rattle.rd_parse.specs.declared.tree.Comparison.TheVariants.{Eq, Ne, Lt, Le, Gt, Ge, In, NotIn}
-use Rattle.rd_parse.specs.declared.tree.Node.{Node}
-use Rattle.rd_parse.specs.declared.tree.Node.TheVariants as node
+use Rattle.rd_tree.specs.declared.tree.Name.{Name}
+use Rattle.rd_tree.specs.declared.tree.Operator.{Operator}
+use Rattle.rd_tree.specs.declared.tree.Operator.TheVariants.{Add, Sub, Mul, FloorDiv, Mod}
+use Rattle.rd_tree.specs.declared.tree.Comparison.{Comparison}
+use Rattle.rd_tree.specs.declared.tree.Comparison.TheVariants.{Eq, Ne, Lt, Le, Gt, Ge, In, NotIn}
+use Rattle.rd_tree.specs.declared.tree.Node.{Node}
+use Rattle.rd_tree.specs.declared.tree.Node.TheVariants as node
 use Rattle.rd_parse.specs.declared.expression.arguments.Given.{Given}
 use Rattle.rd_parse.specs.declared.expression.arguments.Given.TheVariants as given
 use Rattle.rd_parse.specs.declared.expression.build.Part.{Part}

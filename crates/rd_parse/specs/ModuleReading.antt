@@ -2,11 +2,11 @@
 use Rattle.std.specs.Prelude.{ℕ, List, [], ◌∷◌, Option, Some, None, Bool, true, false}
 use Rattle.rd_syntax.specs.declared.token.Token.{Token}
 use Rattle.rd_parse.specs.declared.terminal.Terminal.TheVariants as w
-use Rattle.rd_parse.specs.declared.tree.Name.{Name}
-use Rattle.rd_parse.specs.declared.tree.Parameter.{Parameter}
-use Rattle.rd_parse.specs.declared.tree.TaskOption.{TaskOption}
-use Rattle.rd_parse.specs.declared.tree.Function.{Function}
-use Rattle.rd_parse.specs.declared.tree.Module.{Module}
+use Rattle.rd_tree.specs.declared.tree.Name.{Name}
+use Rattle.rd_tree.specs.declared.tree.Parameter.{Parameter}
+use Rattle.rd_tree.specs.declared.tree.TaskOption.{TaskOption}
+use Rattle.rd_tree.specs.declared.tree.Function.{Function}
+use Rattle.rd_tree.specs.declared.tree.Module.{Module}
 use Rattle.rd_parse.specs.declared.module.build.Part.{Part}
 use Rattle.rd_parse.specs.declared.module.build.Part.TheVariants.{Silent, Namespace, Defined}
 use Rattle.rd_parse.specs.Reader.{read_made, Reader, hits, ◌>>=◌, pure, read_one, read_either, read_many, read_opening, read_below, read_more, read_tail}

@@ -3,11 +3,11 @@ use Rattle.std.specs.Prelude.{ℕ, List, [], ◌∷◌, Option, Some, None, Bool
 use Rattle.rd_syntax.specs.declared.token.Token.{Token}
 use Rattle.rd_parse.specs.declared.terminal.Terminal.{Terminal}
 use Rattle.rd_parse.specs.declared.terminal.Terminal.TheVariants as w
-use Rattle.rd_parse.specs.declared.tree.Name.{Name}
-use Rattle.rd_parse.specs.declared.tree.Parameter.{Parameter}
-use Rattle.rd_parse.specs.declared.tree.TaskOption.{TaskOption}
-use Rattle.rd_parse.specs.declared.tree.Function.{Function}
-use Rattle.rd_parse.specs.declared.tree.Module.{Module}
+use Rattle.rd_tree.specs.declared.tree.Name.{Name}
+use Rattle.rd_tree.specs.declared.tree.Parameter.{Parameter}
+use Rattle.rd_tree.specs.declared.tree.TaskOption.{TaskOption}
+use Rattle.rd_tree.specs.declared.tree.Function.{Function}
+use Rattle.rd_tree.specs.declared.tree.Module.{Module}
 use Rattle.rd_parse.specs.declared.module.build.Part.{Part}
 use Rattle.rd_parse.specs.declared.module.build.Part.TheVariants.{Silent, Namespace, Defined}
 use Rattle.rd_parse.specs.Form.{Form, ◌>>=◌, one, yields, either, many, opening, below, tail, more, IsText}

@@ -3,11 +3,11 @@ use Rattle.std.specs.Prelude.{ℕ, zero, suc, List, [], ◌∷◌, ◌++◌, Opt
 use Rattle.rd_syntax.specs.declared.token.Token.{Token}
 use Rattle.rd_value.specs.declared.value.Datum.TheVariants as value
 use Rattle.rd_parse.specs.declared.terminal.Terminal.TheVariants as w
-use Rattle.rd_parse.specs.declared.tree.Name.{Name}
-use Rattle.rd_parse.specs.declared.tree.Operator.{Operator}
-use Rattle.rd_parse.specs.declared.tree.Comparison.{Comparison}
-use Rattle.rd_parse.specs.declared.tree.Comparison.TheVariants.{NotIn}
-use Rattle.rd_parse.specs.declared.tree.Node.TheVariants as node
+use Rattle.rd_tree.specs.declared.tree.Name.{Name}
+use Rattle.rd_tree.specs.declared.tree.Operator.{Operator}
+use Rattle.rd_tree.specs.declared.tree.Comparison.{Comparison}
+use Rattle.rd_tree.specs.declared.tree.Comparison.TheVariants.{NotIn}
+use Rattle.rd_tree.specs.declared.tree.Node.TheVariants as node
 use Rattle.rd_parse.specs.declared.expression.arguments.Given.{Given}
 use Rattle.rd_parse.specs.declared.expression.arguments.Given.TheVariants as given
 use Rattle.rd_parse.specs.declared.expression.build.Part.{Part}

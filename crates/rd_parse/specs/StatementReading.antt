@@ -2,8 +2,8 @@
 use Rattle.std.specs.Prelude.{ℕ, zero, suc, List, [], ◌∷◌, Option, Some, None, Bool}
 use Rattle.rd_syntax.specs.declared.token.Token.{Token}
 use Rattle.rd_parse.specs.declared.terminal.Terminal.TheVariants as w
-use Rattle.rd_parse.specs.declared.tree.Name.{Name}
-use Rattle.rd_parse.specs.declared.tree.Statement.TheVariants as statement
+use Rattle.rd_tree.specs.declared.tree.Name.{Name}
+use Rattle.rd_tree.specs.declared.tree.Statement.TheVariants as statement
 use Rattle.rd_parse.specs.Reader.{Reader, holds, hits, ◌>>=◌, pure, read_one, read_either, read_pick, read_many, read_opening, read_below, too_deep}
 use Rattle.rd_parse.specs.Noting.{read_noting, read_past}
 use Rattle.rd_parse.specs.Terminal.{is, among, name_of, text_of}

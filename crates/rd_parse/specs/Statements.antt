@@ -3,11 +3,11 @@ use Rattle.std.specs.Prelude.{ℕ, zero, suc, List, [], ◌∷◌, Option, Some,
 use Rattle.rd_syntax.specs.declared.token.Token.{Token}
 use Rattle.rd_parse.specs.declared.terminal.Terminal.{Terminal}
 use Rattle.rd_parse.specs.declared.terminal.Terminal.TheVariants as w
-use Rattle.rd_parse.specs.declared.tree.Name.{Name}
-use Rattle.rd_parse.specs.declared.tree.Operator.TheVariants.{Add}
-use Rattle.rd_parse.specs.declared.tree.Node.TheVariants as node
-use Rattle.rd_parse.specs.declared.tree.Statement.{Statement}
-use Rattle.rd_parse.specs.declared.tree.Statement.TheVariants as statement
+use Rattle.rd_tree.specs.declared.tree.Name.{Name}
+use Rattle.rd_tree.specs.declared.tree.Operator.TheVariants.{Add}
+use Rattle.rd_tree.specs.declared.tree.Node.TheVariants as node
+use Rattle.rd_tree.specs.declared.tree.Statement.{Statement}
+use Rattle.rd_tree.specs.declared.tree.Statement.TheVariants as statement
 use Rattle.rd_parse.specs.Form.{Form, ◌>>=◌, one, yields, either, many, never, opening, below}
 use Rattle.rd_parse.specs.Noting.{noting}
 use Rattle.rd_parse.specs.Reader.{hits}

@@ -9,7 +9,7 @@ use Rattle.rd_syntax.specs.declared.token.Token.{Token}
 use Rattle.rd_parse.specs.declared.terminal.Terminal.{Terminal}
 use Rattle.rd_parse.specs.declared.terminal.Terminal.TheVariants as w
 use Rattle.rd_parse.specs.contracts.terminal.Terminal.{the_type}
-use Rattle.rd_parse.specs.declared.tree.Name.{Name}
+use Rattle.rd_tree.specs.declared.tree.Name.{Name}
 
 -- the reserved words that the grammar knows
 abbrev pub word : List ℕ → Terminal

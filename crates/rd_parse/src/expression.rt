@@ -13,10 +13,10 @@ mod nested;
 mod postfix;
 
 use crate::halt::Halt;
-use crate::tree::{Name, Node};
 pub use arguments::begins_expression;
 use nested::{Inner, Rule};
 use rd_syntax::Token;
+use rd_tree::{Name, Node};
 use std::alloc::Global;
 
 pub type Tree = Node<Name>;
@@ -50,6 +50,3 @@ pub fn expression<'a>(alloc: Global, depth: usize, tokens: &'a [Token]) -> Read<
 {
     rule(alloc, Rule::Expression, depth, tokens)
 }
-
-#[cfg(test)]
-mod tests;

@@ -16,11 +16,11 @@ use crate::halt::Halt;
 use crate::statement::block;
 use crate::take::{begins_with, expect, name};
 use crate::terminal::{Terminal, terminal_of};
-use crate::tree::{Function, Name, Parameter};
 use decorator::decorated;
 use parameters::parameters_in_brackets;
 use rd_base::Items;
 use rd_syntax::Token;
+use rd_tree::{Function, Name, Parameter};
 use std::alloc::Global;
 
 /// A name with its parameters.

@@ -13,9 +13,9 @@ mod statement;
 mod take;
 mod terminal;
 mod texts;
-pub mod tree;
 
 pub use halt::Halt;
 pub use literal::{one_literal, parse_literal};
 pub use parser::{one_module, parse};
+pub use rd_tree::{Block, Module};
 pub use take::MAX_NESTING;

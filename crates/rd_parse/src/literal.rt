@@ -397,6 +397,3 @@ pub fn parse_literal(alloc: Global, text: &str) -> Result<Option<Value>, OutOfMe
 pub fn one_literal()
     ensures { (text : List ℕ) (v u : Literal) → Spells text v → Spells text u → v ≡ u }
 {}
-
-#[cfg(test)]
-mod tests;

@@ -16,9 +16,9 @@ use crate::import::import_line;
 use crate::take::{begins_with, expect};
 use crate::terminal::{Terminal, terminal_of};
 use crate::texts::{begins_text, texts};
-use crate::tree::{Module, Name};
 use build::{Part, module_of};
 use rd_syntax::Token;
+use rd_tree::{Module, Name};
 use std::alloc::Global;
 
 #[tactic(auto, unfolding(crate::specs::ModuleReading::read_imports))]

@@ -6,13 +6,13 @@ ghost use Rattle.rd_syntax.specs.declared.source.SourceError.TheVariants.{Refuse
 ghost use Rattle.rd_syntax.specs.declared.token.Token.{Token};
 ghost use Rattle.rd_parse.specs.Modules.{IsModule};
 ghost use Rattle.rd_parse.specs.Refusals.{RefusedAt, last_line, line_at};
-ghost use Rattle.rd_parse.specs.declared.tree.Module.{Module};
+ghost use Rattle.rd_tree.specs.declared.tree.Module.{Module};
 
 use crate::halt::Halt;
 use crate::module::whole;
 use crate::take::MAX_NESTING;
-use crate::tree::Module;
 use rd_syntax::{SourceError, Token, Tokens};
+use rd_tree::Module;
 use std::alloc::Global;
 
 /// The line of the last token, or the first line where there is no token.
@@ -67,6 +67,3 @@ pub fn parse(alloc: Global, tokens: &Tokens) -> Result<Module, SourceError>
 pub fn one_module()
     ensures { (tokens : List Token) (m n : Module) → IsModule tokens m → IsModule tokens n → m ≡ n }
 {}
-
-#[cfg(test)]
-mod tests;

@@ -9,10 +9,10 @@ mod simple;
 
 use crate::expression::Read;
 use crate::halt::Halt;
-use crate::tree::{Name, Statement};
 use blocks::Body;
 use rd_base::Items;
 use rd_syntax::Token;
+use rd_tree::{Name, Statement};
 use std::alloc::Global;
 
 type Command = Statement<Name>;

@@ -9,9 +9,9 @@ ghost use Rattle.rd_parse.specs.Expressions.{constant_of};
 
 use crate::halt::Halt;
 use crate::terminal::{Terminal, terminal_of};
-use crate::tree::Name;
 use rd_base::{Copies, Text};
 use rd_syntax::Token;
+use rd_tree::Name;
 use rd_value::value::Value;
 use std::alloc::Global;
 

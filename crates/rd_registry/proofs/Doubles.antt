@@ -1,8 +1,8 @@
 -- Names that stand twice, along a walk.
 use Rattle.std.proofs.Common.{◌≡◌, ℕ, ◌<◌, ◌+◌, List, [], ◌∷◌, ◌++◌, length, drop, get_or, Option, refl, sym, ap, ◌∙◌, append_assoc}
 use Rattle.std.proofs.lemmas.List.{drop_more}
-use Rattle.rd_parse.specs.declared.tree.Name.{Name}
-use Rattle.rd_parse.specs.declared.tree.Function.{Function}
+use Rattle.rd_tree.specs.declared.tree.Name.{Name}
+use Rattle.rd_tree.specs.declared.tree.Function.{Function}
 use Rattle.rd_registry.specs.declared.refusal.Refusal.{Refusal}
 use Rattle.rd_registry.specs.Options.{task_name}
 use Rattle.rd_registry.specs.Names.{texts, double, doubles, with_name, with_names, task_names}

@@ -1,12 +1,12 @@
 -- The names that statements give values to, at each kind of statement.
 use Rattle.std.proofs.Common.{◌≡◌, ℕ, List, [], ◌∷◌, ◌++◌, map, ap, ◌∙◌}
-use Rattle.rd_parse.specs.declared.tree.Name.{Name}
-use Rattle.rd_parse.specs.declared.tree.Node.{Node}
-use Rattle.rd_parse.specs.declared.tree.Statement.{Statement}
-use Rattle.rd_parse.specs.declared.tree.Statement.TheVariants as variant
-use Rattle.rd_parse.specs.declared.tree.Statement.TheViews as made
-use Rattle.rd_parse.specs.declared.tree.Statement.TheOpen.{Statement-F}
-use Rattle.rd_parse.specs.declared.tree.Statement.TheFolds.{fold-roll-Statement}
+use Rattle.rd_tree.specs.declared.tree.Name.{Name}
+use Rattle.rd_tree.specs.declared.tree.Node.{Node}
+use Rattle.rd_tree.specs.declared.tree.Statement.{Statement}
+use Rattle.rd_tree.specs.declared.tree.Statement.TheVariants as variant
+use Rattle.rd_tree.specs.declared.tree.Statement.TheViews as made
+use Rattle.rd_tree.specs.declared.tree.Statement.TheOpen.{Statement-F}
+use Rattle.rd_tree.specs.declared.tree.Statement.TheFolds.{fold-roll-Statement}
 use Rattle.rd_registry.specs.Uses.{joined, assigned, assigned_at, assigned_in}
 use Rattle.rd_registry.proofs.Walking.{map_both}
 

@@ -9,11 +9,11 @@ use Rattle.std.proofs.lemmas.List.Elements.{All-nil, All-cons, All-head, All-tai
 use Rattle.std.proofs.lemmas.Map.Views.{Contains-from_any, list_any-from_Contains}
 use Rattle.std.proofs.lemmas.Map.Made.{AllPairs-from_IsDistinct, IsDistinct-from_AllPairs}
 use Rattle.std.proofs.lemmas.Slice.Eq.{bytes_eq-Decides}
-use Rattle.rd_parse.specs.declared.tree.Name.{Name}
-use Rattle.rd_parse.specs.declared.tree.Statement.{Statement}
-use Rattle.rd_parse.specs.declared.tree.TaskOption.{TaskOption}
-use Rattle.rd_parse.specs.declared.tree.Function.{Function}
-use Rattle.rd_parse.specs.declared.tree.Module.{Module}
+use Rattle.rd_tree.specs.declared.tree.Name.{Name}
+use Rattle.rd_tree.specs.declared.tree.Statement.{Statement}
+use Rattle.rd_tree.specs.declared.tree.TaskOption.{TaskOption}
+use Rattle.rd_tree.specs.declared.tree.Function.{Function}
+use Rattle.rd_tree.specs.declared.tree.Module.{Module}
 use Rattle.rd_registry.specs.declared.refusal.Broken.TheVariants as b
 use Rattle.rd_registry.specs.declared.refusal.Refusal.{Refusal}
 use Rattle.rd_registry.specs.Spelling.{is_dotted}

@@ -5,9 +5,9 @@ use Rattle.std.proofs.Math.Path.{fun_ext}
 use Rattle.std.proofs.Math.Seq.{take-length, take-append_seam}
 use Rattle.std.specs.Str.{bytes_eq}
 use Rattle.std.proofs.lemmas.Slice.Eq.{bytes_eq-Decides}
-use Rattle.rd_parse.specs.declared.tree.Name.{Name}
-use Rattle.rd_parse.specs.declared.tree.Node.{Node}
-use Rattle.rd_parse.specs.declared.tree.Node.TheVariants as node
+use Rattle.rd_tree.specs.declared.tree.Name.{Name}
+use Rattle.rd_tree.specs.declared.tree.Node.{Node}
+use Rattle.rd_tree.specs.declared.tree.Node.TheVariants as node
 use Rattle.rd_registry.specs.Uses.{joined}
 use Rattle.rd_registry.specs.Names.{is_among, with_name, with_names, node_refusals}
 use Rattle.rd_registry.proofs.UseLayers.{and_also, node_comp}

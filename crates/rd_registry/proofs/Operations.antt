@@ -3,13 +3,13 @@ use Rattle.std.proofs.Common.{◌≡◌, ℕ, true, List, refl, sym, subst}
 use Rattle.std.proofs.lemmas.Bool.{false≢true}
 use Rattle.rd_value.specs.declared.value.FileValue.{FileValue}
 use Rattle.rd_value.specs.declared.value.Datum.{Datum}
-use Rattle.rd_parse.specs.declared.tree.Name.{Name}
-use Rattle.rd_parse.specs.declared.tree.Operator.{Operator}
-use Rattle.rd_parse.specs.declared.tree.Comparison.{Comparison}
-use Rattle.rd_parse.specs.declared.tree.Node.{Node, out-Node, roll-out-Node}
-use Rattle.rd_parse.specs.declared.tree.Node.TheVariants as node
-use Rattle.rd_parse.specs.declared.tree.Node.TheViews as made_node
-use Rattle.rd_parse.specs.declared.tree.Node.TheOpen.{Node-F}
+use Rattle.rd_tree.specs.declared.tree.Name.{Name}
+use Rattle.rd_tree.specs.declared.tree.Operator.{Operator}
+use Rattle.rd_tree.specs.declared.tree.Comparison.{Comparison}
+use Rattle.rd_tree.specs.declared.tree.Node.{Node, out-Node, roll-out-Node}
+use Rattle.rd_tree.specs.declared.tree.Node.TheVariants as node
+use Rattle.rd_tree.specs.declared.tree.Node.TheViews as made_node
+use Rattle.rd_tree.specs.declared.tree.Node.TheOpen.{Node-F}
 use Rattle.rd_registry.specs.Uses.{is_operation, is_operation_at}
 
 -- no expression of a kind that is no operation

@@ -3,19 +3,19 @@ use Rattle.std.proofs.Common.{◌≡◌, ℕ, Bool, true, false, not, ◌&&◌, 
 use Rattle.std.specs.Str.{bytes_eq}
 use Rattle.rd_value.specs.declared.value.FileValue.{FileValue}
 use Rattle.rd_value.specs.declared.value.Datum.{Datum}
-use Rattle.rd_parse.specs.declared.tree.Name.{Name}
-use Rattle.rd_parse.specs.declared.tree.Operator.{Operator}
-use Rattle.rd_parse.specs.declared.tree.Comparison.{Comparison}
-use Rattle.rd_parse.specs.declared.tree.Node.{Node}
-use Rattle.rd_parse.specs.declared.tree.Node.TheVariants as node
-use Rattle.rd_parse.specs.declared.tree.Node.TheViews as made_node
-use Rattle.rd_parse.specs.declared.tree.Node.TheOpen.{Node-F}
-use Rattle.rd_parse.specs.declared.tree.Node.TheFolds.{fold-roll-Node}
-use Rattle.rd_parse.specs.declared.tree.Statement.{Statement}
-use Rattle.rd_parse.specs.declared.tree.Statement.TheVariants as statement
-use Rattle.rd_parse.specs.declared.tree.Statement.TheViews as made_statement
-use Rattle.rd_parse.specs.declared.tree.Statement.TheOpen.{Statement-F}
-use Rattle.rd_parse.specs.declared.tree.Statement.TheFolds.{fold-roll-Statement}
+use Rattle.rd_tree.specs.declared.tree.Name.{Name}
+use Rattle.rd_tree.specs.declared.tree.Operator.{Operator}
+use Rattle.rd_tree.specs.declared.tree.Comparison.{Comparison}
+use Rattle.rd_tree.specs.declared.tree.Node.{Node}
+use Rattle.rd_tree.specs.declared.tree.Node.TheVariants as node
+use Rattle.rd_tree.specs.declared.tree.Node.TheViews as made_node
+use Rattle.rd_tree.specs.declared.tree.Node.TheOpen.{Node-F}
+use Rattle.rd_tree.specs.declared.tree.Node.TheFolds.{fold-roll-Node}
+use Rattle.rd_tree.specs.declared.tree.Statement.{Statement}
+use Rattle.rd_tree.specs.declared.tree.Statement.TheVariants as statement
+use Rattle.rd_tree.specs.declared.tree.Statement.TheViews as made_statement
+use Rattle.rd_tree.specs.declared.tree.Statement.TheOpen.{Statement-F}
+use Rattle.rd_tree.specs.declared.tree.Statement.TheFolds.{fold-roll-Statement}
 use Rattle.rd_registry.specs.declared.refusal.Broken.TheVariants as b
 use Rattle.rd_registry.specs.Uses.{Called, Use, used, within, joined, keyword_names, uses, uses_at, returned_uses, statement_uses, statement_uses_at}
 use Rattle.rd_registry.specs.Names.{is_among, unless, at, error_classes, call_refusals, role_refusals, use_refusals, refusals_of, node_refusals, statement_refusals}

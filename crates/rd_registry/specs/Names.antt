@@ -4,13 +4,13 @@ use Rattle.std.specs.List.{All, AllPairs, Contains, list_any}
 use Rattle.std.specs.Str.{bytes_eq}
 use Rattle.rd_value.specs.declared.class.Class.TheVariants as c
 use Rattle.rd_value.specs.Class as class
-use Rattle.rd_parse.specs.declared.tree.Name.{Name}
-use Rattle.rd_parse.specs.declared.tree.Node.{Node}
-use Rattle.rd_parse.specs.declared.tree.Statement.{Statement}
-use Rattle.rd_parse.specs.declared.tree.TaskOption.{TaskOption}
-use Rattle.rd_parse.specs.declared.tree.Parameter.{Parameter}
-use Rattle.rd_parse.specs.declared.tree.Function.{Function}
-use Rattle.rd_parse.specs.declared.tree.Module.{Module}
+use Rattle.rd_tree.specs.declared.tree.Name.{Name}
+use Rattle.rd_tree.specs.declared.tree.Node.{Node}
+use Rattle.rd_tree.specs.declared.tree.Statement.{Statement}
+use Rattle.rd_tree.specs.declared.tree.TaskOption.{TaskOption}
+use Rattle.rd_tree.specs.declared.tree.Parameter.{Parameter}
+use Rattle.rd_tree.specs.declared.tree.Function.{Function}
+use Rattle.rd_tree.specs.declared.tree.Module.{Module}
 use Rattle.rd_registry.specs.declared.refusal.Broken.{Broken}
 use Rattle.rd_registry.specs.declared.refusal.Broken.TheVariants as b
 use Rattle.rd_registry.specs.declared.refusal.Refusal.{Refusal}

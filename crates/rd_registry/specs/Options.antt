@@ -4,9 +4,9 @@ use Rattle.std.specs.Str.{bytes_eq}
 use Rattle.rd_value.specs.declared.value.FileValue.{FileValue}
 use Rattle.rd_value.specs.declared.value.Datum.{Datum, out-Datum}
 use Rattle.rd_value.specs.declared.value.Datum.TheOpen.{Datum-F}
-use Rattle.rd_parse.specs.declared.tree.Name.{Name}
-use Rattle.rd_parse.specs.declared.tree.TaskOption.{TaskOption}
-use Rattle.rd_parse.specs.declared.tree.Function.{Function}
+use Rattle.rd_tree.specs.declared.tree.Name.{Name}
+use Rattle.rd_tree.specs.declared.tree.TaskOption.{TaskOption}
+use Rattle.rd_tree.specs.declared.tree.Function.{Function}
 use Rattle.rd_registry.specs.Spelling.{is_name, is_dotted}
 
 abbrev pub text_at : {X : Type 0} → Datum-F FileValue X → Option (List ℕ)

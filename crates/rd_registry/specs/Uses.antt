@@ -1,13 +1,13 @@
 -- Where a function uses names, and which names are local to it.
 use Rattle.std.specs.Prelude.{ℕ, Bool, true, false, List, [], ◌∷◌, ◌++◌, map, Option, None, Some}
-use Rattle.rd_parse.specs.declared.tree.Name.{Name}
-use Rattle.rd_parse.specs.declared.tree.Node.{Node, out-Node}
-use Rattle.rd_parse.specs.declared.tree.Node.TheOpen.{Node-F}
-use Rattle.rd_parse.specs.declared.tree.Node.TheFolds.{fold-Node}
-use Rattle.rd_parse.specs.declared.tree.Statement.{Statement}
-use Rattle.rd_parse.specs.declared.tree.Statement.TheOpen.{Statement-F}
-use Rattle.rd_parse.specs.declared.tree.Statement.TheFolds.{fold-Statement}
-use Rattle.rd_parse.specs.declared.tree.Function.{Function}
+use Rattle.rd_tree.specs.declared.tree.Name.{Name}
+use Rattle.rd_tree.specs.declared.tree.Node.{Node, out-Node}
+use Rattle.rd_tree.specs.declared.tree.Node.TheOpen.{Node-F}
+use Rattle.rd_tree.specs.declared.tree.Node.TheFolds.{fold-Node}
+use Rattle.rd_tree.specs.declared.tree.Statement.{Statement}
+use Rattle.rd_tree.specs.declared.tree.Statement.TheOpen.{Statement-F}
+use Rattle.rd_tree.specs.declared.tree.Statement.TheFolds.{fold-Statement}
+use Rattle.rd_tree.specs.declared.tree.Function.{Function}
 
 -- as what a name stands
 pub data Role : Type 0 where

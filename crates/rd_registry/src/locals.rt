@@ -6,7 +6,7 @@ ghost use Rattle.rd_registry.specs.Uses as spec;
 
 use indexmap::IndexSet;
 use rd_base::{Copies, Items, OutOfMemory, Text};
-use rd_parse::tree::{Name, Node, Statement};
+use rd_tree::{Name, Node, Statement};
 use std::alloc::Global;
 
 /// Adds the names to which a block gives values.

@@ -15,7 +15,7 @@ use crate::spelling::is_dotted;
 use crate::uses::{is_builtin, is_error_class, judge_body};
 use indexmap::IndexSet;
 use rd_base::{Items, OutOfMemory, Text};
-use rd_parse::tree::{Function, Module, Name, Parameter, TaskOption};
+use rd_tree::{Function, Module, Name, Parameter, TaskOption};
 use std::alloc::Global;
 
 /// Refuses the name for a rule, unless the rule is kept.

@@ -5,7 +5,7 @@ ghost use Rattle.rd_registry.specs.Options as spec;
 
 use crate::spelling::{is_dotted, is_name};
 use rd_base::{Copies, OutOfMemory, Text};
-use rd_parse::tree::TaskOption;
+use rd_tree::TaskOption;
 use rd_value::value::Value;
 use std::alloc::Global;
 

@@ -6,7 +6,7 @@ ghost use Rattle.rd_registry.specs.Names as spec;
 use crate::refusal::{Broken, Refusal};
 use indexmap::IndexSet;
 use rd_base::{Copies, OutOfMemory, Text};
-use rd_parse::tree::Name;
+use rd_tree::Name;
 use std::alloc::Global;
 
 /// Notes a name, and refuses it where it was noted before.

@@ -9,7 +9,7 @@ use crate::refusal::{Broken, Refusal};
 use crate::repeats::note_name;
 use indexmap::IndexSet;
 use rd_base::{Boxed, Copies, Items, OutOfMemory, Text};
-use rd_parse::tree::{Name, Node, Operator, Statement};
+use rd_tree::{Name, Node, Operator, Statement};
 use std::alloc::Global;
 
 fn is_offered(name: &str) -> bool

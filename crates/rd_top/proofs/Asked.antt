@@ -1,16 +1,20 @@
 -- The words of a run.
-use Rattle.std.proofs.Common.{◌≡◌, ◌≢◌, ℕ, ◌≤◌, ◌<◌, Bool, true, false, not, List, [], ◌∷◌, length, get_or, refl, sym, ap, ◌∙◌, arith, Ok, Err, Result}
+use Rattle.std.proofs.Common.{◌≡◌, ◌≢◌, ℕ, ◌≤◌, Bool, true, false, not, List, [], ◌∷◌, length, take, drop, ◌-◌, le_refl, get_or, refl, sym, ap, ◌∙◌, arith, Ok, Err, Result}
 use Rattle.std.specs.Prelude.{◌==◌}
+use Rattle.std.proofs.lemmas.List.{take_all, length-drop}
 use Rattle.std.specs.Str.{bytes_eq}
 use Rattle.std.proofs.lemmas.Slice.Eq.{bytes_eq-Decides}
 
--- a list of three is its three items
-pub three : {A : Type 0} (xs : List A) (a b c : A) → 3 ≤ length xs → length xs < 4 → a ≡ get_or xs 0 a → b ≡ get_or xs 1 b → c ≡ get_or xs 2 c → xs ≡ a ∷ b ∷ c ∷ []
-three [] a b c l u i j k = absurd (omega (arith, l))
-three (x ∷ []) a b c l u i j k = absurd (omega (arith, l))
-three (x ∷ y ∷ []) a b c l u i j k = absurd (omega (arith, l))
-three (x ∷ y ∷ z ∷ []) a b c l u i j k = ap (λ p. p ∷ y ∷ z ∷ []) (sym i) ∙ ap (λ p. a ∷ p ∷ z ∷ []) (sym j) ∙ ap (λ p. a ∷ b ∷ p ∷ []) (sym k)
-three (x ∷ y ∷ z ∷ w ∷ more) a b c l u i j k = absurd (omega (arith, u))
+-- a list of three and more is its three items and what is behind them
+pub three : {A : Type 0} (xs : List A) (a b c : A) → 3 ≤ length xs → a ≡ get_or xs 0 a → b ≡ get_or xs 1 b → c ≡ get_or xs 2 c → xs ≡ a ∷ b ∷ c ∷ drop 3 xs
+three [] a b c l i j k = absurd (omega (arith, l))
+three (x ∷ []) a b c l i j k = absurd (omega (arith, l))
+three (x ∷ y ∷ []) a b c l i j k = absurd (omega (arith, l))
+three (x ∷ y ∷ z ∷ more) a b c l i j k = ap (λ p. p ∷ y ∷ z ∷ more) (sym i) ∙ ap (λ p. a ∷ p ∷ z ∷ more) (sym j) ∙ ap (λ p. a ∷ b ∷ p ∷ more) (sym k)
+
+-- what is behind three items, as long as it is
+pub rest_is : {A : Type 0} (xs : List A) → take (length xs - 3) (drop 3 xs) ≡ drop 3 xs
+rest_is xs = take_all (length xs - 3) (drop 3 xs) (rw (length-drop 3 xs) (le_refl (length xs - 3)))
 
 -- bytes that weren't found different are the same
 pub not_different : (a b : List ℕ) (r : Bool) → r ≡ not (bytes_eq a b) → r ≡ false → a ≡ b

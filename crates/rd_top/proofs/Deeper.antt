@@ -5,8 +5,9 @@ use Rattle.rd_value.specs.declared.value.Datum.{Datum}
 use Rattle.rd_value.specs.declared.expr.Lazy.{Lazy, out-Lazy}
 use Rattle.rd_value.specs.declared.expr.Lazy.TheOpen.{Lazy-F}
 use Rattle.rd_value.specs.declared.failure.Failure.{Failure}
-use Rattle.rd_top.specs.declared.tree.Module.{Module}
-use Rattle.rd_top.specs.Fresh.{Answer, Gives, Failed, Deep, Out, before, join, both, on_answer, then_, inside, find, calling, step, at_zero, run, fresh, trace, event, Met}
+use Rattle.rd_tree.specs.declared.tree.Module.{Module}
+use Rattle.rd_program.specs.Program.{find_task}
+use Rattle.rd_top.specs.Fresh.{Answer, Gives, Failed, Deep, Out, Arguments, before, join, both, on_answer, then_, inside, calling, step, at_zero, run, fresh, trace, event, Met}
 use Rattle.rd_top.proofs.Kept.{Relation, Keeps, step_kept, call_kept}
 
 -- the second is the first, unless that is Deep
@@ -46,7 +47,7 @@ up_keeps F = record {
 }
 
 module _ {F : Type 0} (file : F → FileValue) (m : Module) where
-  zero_up : (calls : List ℕ → List (Datum F) → Out F (Datum F)) (ev : Lazy F → Out F (Datum F)) (x : Lazy-F F (Lazy F)) → UpTo F (Datum F) (at_zero x) (step calls ev x)
+  zero_up : (calls : List ℕ → Arguments F → Out F (Datum F)) (ev : Lazy F → Out F (Datum F)) (x : Lazy-F F (Lazy F)) → UpTo F (Datum F) (at_zero x) (step file calls ev x)
   zero_up calls ev (Lazy-F.Val v) = λ h. refl
   zero_up calls ev x = λ h. absurd (h refl)
 
@@ -55,8 +56,8 @@ module _ {F : Type 0} (file : F → FileValue) (m : Module) where
   one_deeper zero e = zero_up (calling file m (run file m zero)) (run file m zero) (out-Lazy F e)
   one_deeper (suc n) e =
       let u = one_deeper n in
-      step_kept (UpTo F) (up_keeps F) (calling file m (run file m n)) (calling file m (run file m (suc n)))
-      (λ t vs. call_kept (UpTo F) (up_keeps F) file (run file m n) (run file m (suc n)) u (find t m.functions) t vs) (run file m n) (run file m (suc n)) u (out-Lazy F e)
+      step_kept (UpTo F) (up_keeps F) file (calling file m (run file m n)) (calling file m (run file m (suc n)))
+      (λ t args. call_kept (UpTo F) (up_keeps F) file m (run file m n) (run file m (suc n)) u t (find_task m t) args) (run file m n) (run file m (suc n)) u (out-Lazy F e)
 
   deeper_by : (n k : ℕ) (e : Lazy F) → UpTo F (Datum F) (run file m n e) (run file m (k + n) e)
   deeper_by n zero e h = ap (λ j. run file m j e) (omega arith)

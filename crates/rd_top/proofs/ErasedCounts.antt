@@ -4,32 +4,40 @@ use Rattle.std.specs.Prelude.{sum}
 use Rattle.rd_value.specs.declared.value.ErrorValue.{ErrorValue}
 use Rattle.rd_value.specs.declared.value.FileValue.{FileValue}
 use Rattle.rd_value.specs.declared.value.Datum.{Datum}
+use Rattle.rd_value.specs.declared.value.Datum.TheVariants as value
 use Rattle.rd_value.specs.declared.expr.Lazy.{Lazy, out-Lazy}
 use Rattle.rd_value.specs.declared.expr.Lazy.TheVariants as lazy
 use Rattle.rd_value.specs.declared.expr.Lazy.TheOpen.{Lazy-F}
-use Rattle.rd_value.specs.Model.{file_of}
-use Rattle.rd_value.specs.Erase.{with_files, with_files_key, with_file_expr, with_files_expr}
+use Rattle.rd_value.specs.Bind.{bind}
+use Rattle.rd_value.specs.Model.{ModelExpr, file_of}
+use Rattle.rd_value.specs.Operators.{kept}
+use Rattle.rd_value.specs.Erase.{with_files, with_files_key, with_file_expr, with_files_expr, carried_all, carried_expr, erase_expr}
 use Rattle.rd_value.proofs.ErasedExprs.{fold_with_files_expr}
-use Rattle.rd_top.specs.declared.tree.Function.{Function}
-use Rattle.rd_top.specs.declared.tree.Module.{Module}
-use Rattle.rd_top.specs.Bind.{bind}
-use Rattle.rd_top.specs.Body.{Reduction, Reduces, Fails, body}
-use Rattle.rd_top.specs.Fits.{most_nested, most_met, seconds, lazies_at, lazies, count_met, Fits}
-use Rattle.rd_top.specs.Fresh.{Event, Answer, Gives, Failed, Deep, Out, failing, on_answer, wrote, find, parts, go_on, on_reduction, visit, entered, call, calling, step, at_zero, run, trace}
+use Rattle.rd_tree.specs.declared.tree.Function.{Function}
+use Rattle.rd_tree.specs.declared.tree.Module.{Module}
+use Rattle.rd_program.specs.Program.{find_task, signature_of, body}
+use Rattle.rd_top.specs.Fits.{most_nested, most_met, counts, lazies_at, lazies, count_met, Fits}
+use Rattle.rd_top.specs.Fresh as fresh
+use Rattle.rd_top.specs.Fresh.{Event, Answer, Gives, Failed, Deep, Out, Arguments, answer_map, failing, on_answer, then_, gathered, alone, beside, second, parts, seconds, arguments, made, go_on, on_body, visit, entered, call, calling, step, at_zero, run, trace}
 use Rattle.rd_top.specs.Running.{own}
 use Rattle.rd_top.proofs.Evaluated.{count-append, count_under}
-use Rattle.rd_top.proofs.ErasedLayers.{call_with_files, layer_with, out_with_files_expr}
-use Rattle.rd_top.proofs.BodyErased.{reduction_with, args_with, through, bind_with, body_with}
-use Rattle.rd_top.specs.Answered.{answer_map}
-use Rattle.rd_top.proofs.Erased.{Evaluators, parts_with, run_with, root_same}
+use Rattle.rd_top.proofs.ErasedLayers.{layer_with, out_with_files_expr, pair_with}
+use Rattle.rd_program.proofs.ErasedPrograms.{body_with_files}
+use Rattle.rd_top.proofs.Erased.{through, Maps, Evaluators, keyword_with, item_with, arguments_with, items_with, bound_with, parts_with, pairs_with, all_with, run_with, same_erased}
+
+-- what is made of values tells of nothing
+made_count : {F : Type 0} (r : Result (Datum F) ErrorValue) → count_met (made r).events ≡ 0
+unfolding count_met
+made_count (Ok v) = refl
+made_count (Err e) = refl
 
 module _ {F G : Type 0} (h : F → G) where
-  seconds_with : (ps : List (Datum F × ℕ)) → seconds (map (with_files_key h) ps) ≡ seconds ps
-  seconds_with [] = refl
-  seconds_with (p ∷ ps) = ap (λ ns. p.1 ∷ ns) (seconds_with ps)
+  counts_with : (ps : List (Datum F × ℕ)) → counts (map (with_files_key h) ps) ≡ counts ps
+  counts_with [] = refl
+  counts_with (p ∷ ps) = ap (λ ns. p.1 ∷ ns) (counts_with ps)
 
   lazies_layer : (x : Lazy-F F ℕ) → lazies_at (with_file_expr h x) ≡ lazies_at x
-  lazies_layer (Lazy-F.DictOf ps) = ap (λ ns. sum ns + 1) (seconds_with ps)
+  lazies_layer (Lazy-F.DictOf ps) = ap (λ ns. sum ns + 1) (counts_with ps)
   lazies_layer x = refl
 
   pub lazies_with : (e : Lazy F) → lazies (with_files_expr h e) ≡ lazies e
@@ -45,53 +53,74 @@ module _ {F G : Type 0} (h : F → G) where
   append_count : (es fs : List (Event F)) (es' fs' : List (Event G)) → Equal es es' → Equal fs fs' → Equal (es ++ fs) (es' ++ fs')
   append_count es fs es' fs' i j = omega (arith, count-append es fs, count-append es' fs')
 
-  wrote_count : (ws : List (List ℕ × List ℕ)) → Equal (wrote ws) (wrote ws)
-  unfolding count_met
-  wrote_count [] = refl
-  wrote_count (w ∷ ws) = ap (λ n. 0 + n) (wrote_count ws)
+  module _ {X Y V W : Type 0} (put : X → Datum F → V) (put' : Y → Datum G → W) (ev : X → Out F (Datum F)) (ev' : Y → Out G (Datum G)) (k : X → Y) (c : (x : X) → Counts (ev x) (ev' (k x))) where
+    gathered_count : (xs : List X) → Counts (gathered put ev xs) (gathered put' ev' (map k xs))
+    unfolding count_met
+    gathered_count [] = refl
+    gathered_count (x ∷ xs) = append_count (ev x).events _ (ev' (k x)).events _ (c x) (gathered_count xs)
 
-  answered_count : (a : Answer (List (Datum F))) (go : List (Datum F) → Out F (Datum F)) (go' : List (Datum G) → Out G (Datum G)) → ((vs : List (Datum F)) → Counts (go vs) (go' (map (with_files h) vs)))
-      → Counts (on_answer a go failing) (on_answer (answer_map (map (with_files h)) a) go' failing)
+  answered_count : {A B : Type 0} (j : A → B) (a : Answer A) (go : A → Out F (Datum F)) (go' : B → Out G (Datum G)) → ((a : A) → Counts (go a) (go' (j a))) → Counts (on_answer a go failing) (on_answer (answer_map j a) go' failing)
   unfolding count_met
-  answered_count (Gives vs) go go' u = u vs
-  answered_count a go go' u = refl
+  answered_count j (Gives a) go go' u = u a
+  answered_count j (Failed f) go go' u = refl
+  answered_count j Deep go go' u = refl
+
+  after_count : {A B : Type 0} (j : A → B) (o : Out F A) (p : Out G B) (go : A → Out F (Datum F)) (go' : B → Out G (Datum G)) → Maps h j o p → Counts o p → ((a : A) → Counts (go a) (go' (j a))) → Counts (then_ o go failing) (then_ p go' failing)
+  after_count j o p go go' e i u =
+      append_count o.events _ p.events _ i (ap (λ a. count_met (on_answer a go' failing).events) e ∙ answered_count j o.answer go go' u)
 
   module _ (ev : Lazy F → Out F (Datum F)) (ev' : Lazy G → Out G (Datum G)) (u : Evaluators h ev ev') (c : (e : Lazy F) → Counts (ev e) (ev' (with_files_expr h e))) where
     parts_count : (es : List (Lazy F)) → Counts (parts ev es) (parts ev' (map (with_files_expr h) es))
-    unfolding count_met
-    parts_count [] = refl
-    parts_count (e ∷ es) = append_count (ev e).events _ (ev' (with_files_expr h e)).events _ (c e) (parts_count es)
+    parts_count es = gathered_count alone alone ev ev' (with_files_expr h) c es
 
-    step_count : (calls : List ℕ → List (Datum F) → Out F (Datum F)) (calls' : List ℕ → List (Datum G) → Out G (Datum G)) → ((task : List ℕ) (vs : List (Datum F)) → Counts (calls task vs) (calls' task (map (with_files h) vs)))
-        → (x : Lazy-F F (Lazy F)) → Counts (step calls ev x) (step calls' ev' (layer_with h x))
-    unfolding count_met
-    step_count calls calls' d (Lazy-F.Call task positional []) =
-        rw (parts_with h ev ev' u positional)
-        (append_count (parts ev positional).events _ (parts ev' (map (with_files_expr h) positional)).events _ (parts_count positional) (answered_count (parts ev positional).answer (calls task) (calls' task) (d task)))
-    step_count calls calls' d x = refl
+    keywords_count : (ks : List (List ℕ × Lazy F)) → Counts (seconds ev ks) (seconds ev' (map (keyword_with h) ks))
+    keywords_count ks = gathered_count beside beside (second ev) (second ev') (keyword_with h) (λ p. c p.1) ks
+
+    pairs_count : (ps : List (Datum F × Lazy F)) → Counts (seconds ev ps) (seconds ev' (map (item_with h) ps))
+    pairs_count ps = gathered_count beside beside (second ev) (second ev') (item_with h) (λ p. c p.1) ps
 
     met_count : (e : Lazy F) → Counts (go_on ev e) (go_on ev' (with_files_expr h e))
     unfolding count_met
     met_count e = cc (lazies_with e, c e)
 
-    reduced_count : (r : Reduction F) → Counts (on_reduction ev r) (on_reduction ev' (reduction_with h r))
+    body_count : (task : List ℕ) (r : Result (Lazy F) ErrorValue) → Counts (on_body ev task r) (on_body ev' task (carried_expr h r))
     unfolding count_met
-    reduced_count (Reduces e ws) = append_count (wrote ws) _ (wrote ws) _ (wrote_count ws) (met_count e)
-    reduced_count (Fails f) = refl
+    body_count task (Ok e) = met_count e
+    body_count task (Err e) = refl
 
     module _ (file : G → FileValue) where
-      entered_count : (f : Function) (r : Result (List (Datum F)) ErrorValue) → Counts (entered (through h file) ev f r) (entered file ev' f (args_with h r))
-      unfolding count_met
-      entered_count f (Ok args) =
-          let b = body (through h file) f args in
-          rw (body_with h file f args)
-          (ap (λ n. 0 + n) (count_under (visit file f.name (map (with_files h) args)) (on_reduction ev' (reduction_with h b)).events ∙ reduced_count b ∙ sym (count_under (visit (through h file) f.name args) (on_reduction ev b).events)))
-      entered_count f (Err e) = refl
+      listed_count : (vs : List (Datum F)) → Counts (fresh.listed (through h file) vs) (fresh.listed file (map (with_files h) vs))
+      listed_count vs = made_count (kept file (value.List (map (with_files h) vs))) ∙ sym (made_count (kept (through h file) (value.List vs)))
 
-      call_count : (f : Option Function) (task : List ℕ) (vs : List (Datum F)) → Counts (call (through h file) ev f task vs) (call file ev' f task (map (with_files h) vs))
+      keyed_count : (ps : List (Datum F × Datum F)) → Counts (fresh.keyed (through h file) ps) (fresh.keyed file (map (pair_with h) ps))
+      keyed_count ps = made_count (kept file (value.Dict (map (pair_with h) ps))) ∙ sym (made_count (kept (through h file) (value.Dict ps)))
+
+      step_count : (calls : List ℕ → Arguments F → Out F (Datum F)) (calls' : List ℕ → Arguments G → Out G (Datum G)) → ((task : List ℕ) (args : Arguments F) → Counts (calls task args) (calls' task (arguments_with h args)))
+          → (x : Lazy-F F (Lazy F)) → Counts (step (through h file) calls ev x) (step file calls' ev' (layer_with h x))
       unfolding count_met
-      call_count None task vs = refl
-      call_count (Some f) task vs = rw (bind_with h file f.parameters vs) (entered_count f (bind (through h file) f.parameters vs))
+      step_count calls calls' d (Lazy-F.Call task es ks) =
+          after_count (arguments_with h) (arguments ev es ks) (arguments ev' (map (with_files_expr h) es) (map (keyword_with h) ks)) (calls task) (calls' task) (all_with h ev ev' u es ks)
+          (append_count (parts ev es).events _ (parts ev' (map (with_files_expr h) es)).events _ (parts_count es) (keywords_count ks)) (d task)
+      step_count calls calls' d (Lazy-F.ListOf es) =
+          after_count (map (with_files h)) (parts ev es) (parts ev' (map (with_files_expr h) es)) (fresh.listed (through h file)) (fresh.listed file) (parts_with h ev ev' u es) (parts_count es) listed_count
+      step_count calls calls' d (Lazy-F.DictOf ps) =
+          rw (items_with h ps) (after_count (map (pair_with h)) (seconds ev ps) (seconds ev' (map (item_with h) ps)) (fresh.keyed (through h file)) (fresh.keyed file) (pairs_with h ev ev' u ps) (pairs_count ps) keyed_count)
+      step_count calls calls' d (Lazy-F.Val v) = refl
+      step_count calls calls' d x = refl
+
+      module _ (m : Module) (task : List ℕ) where
+        entered_count : (f : Function) (r : Result (List (Datum F)) ErrorValue) → Counts (entered (through h file) m ev task f r) (entered file m ev' task f (carried_all h r))
+        unfolding count_met
+        entered_count f (Ok args) =
+            let b = body (through h file) m f args in
+            rw (body_with_files h file m f args)
+            (ap (λ n. 0 + n) (count_under (visit task (map (with_files h) args)) (on_body ev' task (carried_expr h b)).events ∙ body_count task b ∙ sym (count_under (visit task args) (on_body ev task b).events)))
+        entered_count f (Err e) = refl
+
+        call_count : (f : Option Function) (args : Arguments F) → Counts (call (through h file) m ev task f args) (call file m ev' task f (arguments_with h args))
+        unfolding count_met
+        call_count None args = refl
+        call_count (Some f) args = rw (bound_with h file f args) (entered_count f (bind (through h file) (signature_of f) args.0 args.1))
 
   zero_count : (x : Lazy-F F (Lazy F)) → Counts (at_zero x) (at_zero (layer_with h x))
   unfolding count_met
@@ -106,7 +135,7 @@ module _ {F G : Type 0} (h : F → G) where
         let ev = run (through h file) m n in
         let ev' = run file m n in
         rw (out_with_files_expr h e)
-        (step_count ev ev' (run_with h file m n) (count_with n) (calling (through h file) m ev) (calling file m ev') (λ task. call_count ev ev' (run_with h file m n) (count_with n) file (find task m.functions) task) (out-Lazy F e))
+        (step_count ev ev' (run_with h file m n) (count_with n) file (calling (through h file) m ev) (calling file m ev') (λ task. call_count ev ev' (run_with h file m n) (count_with n) file m task (find_task m task)) (out-Lazy F e))
 
     trace_with : (n : ℕ) (e : Lazy F) → count_met (trace file m n (with_files_expr h e)) ≡ count_met (trace (through h file) m n e)
     unfolding trace count_met
@@ -118,18 +147,19 @@ deep_with k (Gives a) e = cc
 deep_with k (Failed f) e = cc
 deep_with k Deep e = refl
 
-module _ (m : Module) (task : List ℕ) where
-  root_count : (n : ℕ) → count_met (trace own m n (lazy.Call task [] [])) ≡ count_met (trace file_of m n (lazy.Call task [] []))
-  root_count n = ap (λ e. count_met (trace own m n e)) (sym (call_with_files file_of task [])) ∙ trace_with file_of own m n (lazy.Call task [] [])
+module _ (m : Module) where
+  same_count : (n : ℕ) (e : ModelExpr) → count_met (trace own m n (erase_expr e)) ≡ count_met (trace file_of m n e)
+  same_count n e = trace_with file_of own m n e
 
-  pub fits_with : Fits file_of m (lazy.Call task [] []) → Fits own m (lazy.Call task [] [])
-  fits_with f = record {
-    ends = λ d. f.ends (deep_with _ _ (sym (root_same m task most_nested) ∙ d));
-    few = subst (λ n. n ≤ most_met) (sym (root_count most_nested)) f.few;
-  }
+  module _ (e : ModelExpr) where
+    pub fits_erased : Fits file_of m e → Fits own m (erase_expr e)
+    fits_erased f = record {
+      ends = λ d. f.ends (deep_with _ _ (sym (same_erased m most_nested e) ∙ d));
+      few = subst (λ n. n ≤ most_met) (sym (same_count most_nested e)) f.few;
+    }
 
-  pub fits_without : Fits own m (lazy.Call task [] []) → Fits file_of m (lazy.Call task [] [])
-  fits_without f = record {
-    ends = λ d. f.ends (root_same m task most_nested ∙ ap (answer_map _) d);
-    few = subst (λ n. n ≤ most_met) (root_count most_nested) f.few;
-  }
+    pub fits_restored : Fits own m (erase_expr e) → Fits file_of m e
+    fits_restored f = record {
+      ends = λ d. f.ends (same_erased m most_nested e ∙ ap (answer_map _) d);
+      few = subst (λ n. n ≤ most_met) (same_count most_nested e) f.few;
+    }

@@ -1,12 +1,11 @@
 -- What an evaluator that counts returns, combinator by combinator.
-use Rattle.std.proofs.Common.{◌≡◌, ℕ, zero, suc, ◌+◌, ◌-◌, ◌<◌, ◌≤◌, ◌^◌, inl, inr, List, [], ◌∷◌, ◌++◌, map, length, Option, None, Some, Result, Ok, Err, refl, sym, ap, ◌∙◌, subst, arith}
-use Rattle.std.specs.Option.{option_copied}
-use Rattle.std.specs.Prelude.{min}
+use Rattle.std.proofs.Common.{◌≡◌, ℕ, suc, ◌+◌, ◌-◌, ◌<◌, ◌≤◌, ◌^◌, inl, inr, List, [], ◌∷◌, ◌++◌, map, Option, None, Some, Result, Ok, Err, refl, sym, ap, ◌∙◌, subst, arith}
+use Rattle.std.specs.Prelude.{min, MatchOption}
 use denote.Bor.{Bor}
-use Rattle.rd_value.specs.declared.class.Class.TheVariants.{NameError}
 use Rattle.rd_value.specs.declared.value.ErrorValue.{ErrorValue}
 use Rattle.rd_value.specs.declared.value.FileValue.{FileValue}
 use Rattle.rd_value.specs.declared.value.Datum.{Datum}
+use Rattle.rd_value.specs.declared.value.Datum.TheVariants as value
 use Rattle.rd_value.specs.declared.expr.Lazy.{Lazy, out-Lazy, roll-out-Lazy}
 use Rattle.rd_value.specs.declared.expr.Lazy.TheViews as made
 use Rattle.rd_value.specs.declared.expr.Lazy.TheVariants as lazy
@@ -14,21 +13,27 @@ use Rattle.rd_value.specs.declared.expr.Lazy.TheOpen.{Lazy-F}
 use Rattle.rd_value.specs.declared.failure.Failure.{Failure}
 use Rattle.rd_value.specs.declared.failure.Outcome.{Outcome}
 use Rattle.rd_value.specs.declared.failure.Outcome.TheVariants as outcome
+use Rattle.rd_value.specs.declared.class.Class.TheVariants.{NameError}
+use Rattle.rd_value.specs.Bind.{parameters_of, bind}
+use Rattle.rd_value.specs.Operators.{kept}
+use Rattle.rd_value.specs.Raise.{raised}
+use Rattle.rd_meaning.specs.declared.step.StepError.{StepError}
+use Rattle.rd_meaning.specs.declared.step.StepError.TheVariants as step_error
+use Rattle.rd_meaning.specs.Step.{failure_in, step_in, ComesTo}
+use Rattle.rd_tree.specs.declared.tree.Function.{Function}
+use Rattle.rd_tree.specs.declared.tree.Module.{Module}
+use Rattle.rd_top.specs.declared.evaluate.Gathered.{Gathered}
 use Rattle.rd_top.specs.declared.evaluate.Gathered.TheVariants as gathered
 use Rattle.rd_top.specs.declared.evaluate.Stop.{Stop}
 use Rattle.rd_top.specs.declared.evaluate.Stop.TheVariants.{TooLarge, OutOfMemory}
-use Rattle.rd_top.specs.declared.tree.Function.{Function}
-use Rattle.rd_top.specs.declared.tree.Module.{Module}
-use Rattle.rd_top.specs.declared.body.Reduction.{Reduction}
-use Rattle.rd_top.specs.declared.body.Reduction.TheVariants as reduced
-use Rattle.rd_top.specs.Errors.{in_task}
-use Rattle.rd_value.specs.Raise.{raised}
-use Rattle.rd_top.specs.Bind.{bind}
-use Rattle.rd_top.specs.Body.{body}
-use Rattle.rd_top.specs.Running.{own, reduction_of}
-use Rattle.rd_top.specs.Fresh.{Visit, Event, Bound, Unbound, Met, Answer, Gives, Failed, Deep, Out, plain, failing, before, on_answer, then_, inside, under, event, find, parts, on_reduction, visit, entered, call, calling, step, at_zero, run}
+use Rattle.rd_program.specs.declared.program.Task.{Task}
+use Rattle.rd_top.specs.Running.{own}
+use Rattle.rd_program.specs.Program.{find_task, signature_of, body, IsTaskOf}
+use Rattle.rd_top.specs.Fresh as fresh
+use Rattle.rd_top.specs.Fresh.{Visit, Event, Bound, Unbound, Met, Answer, Gives, Failed, Deep, Out, Arguments, plain, failing, before, join, both, on_answer, then_, inside, under, event, on_body, visit, entered, call, calling, step, at_zero, run}
 use Rattle.rd_top.specs.Fits.{most_met, lazies, met_in, count_met}
-use Rattle.rd_top.specs.Evaluating.{answer_of, answers_of, IsPast, Evaluates, at_depth, call_out, values_out, body_out, met_out}
+use Rattle.rd_top.specs.Evaluating.{answer_of, answers_of, IsPast, Evaluates, after, at_depth, step_out, arguments_out, parts_out, seconds_out, values_out, body_out, met_out}
+use Rattle.rd_program.proofs.Programs.{task_parameters}
 
 pub count-append : {F : Type 0} (es fs : List (Event F)) → count_met (es ++ fs) ≡ count_met es + count_met fs
 unfolding count_met
@@ -57,9 +62,13 @@ module _ {A X : Type 0} (view : X → Answer A) where
   evaluates_inside v o a c (Err TooLarge) (inr l) = inr (omega (arith, count_under v o.events))
   evaluates_inside v o a c (Err OutOfMemory) h = tt
 
-  pub plain_ok : (y : Answer A) (a : ℕ) (x : X) → a ≤ most_met → y ≡ view x → Evaluates view (plain y) a a (Ok x)
+  -- nothing happens
+  pub silent_ok : (o : Out FileValue A) (a : ℕ) (x : X) → a ≤ most_met → o.events ≡ [] → o.answer ≡ view x → Evaluates view o a a (Ok x)
   unfolding Evaluates count_met
-  plain_ok y a x l e = record { gives = e; counted = omega arith; fits = l }
+  silent_ok o a x l none e = record { gives = e; counted = omega (arith, ap count_met none); fits = l }
+
+  pub plain_ok : (y : Answer A) (a : ℕ) (x : X) → a ≤ most_met → y ≡ view x → Evaluates view (plain y) a a (Ok x)
+  plain_ok y a x l e = silent_ok (plain y) a x l refl e
 
   pub no_memory : (o : Out FileValue A) (a b : ℕ) → Evaluates view o a b (Err OutOfMemory)
   unfolding Evaluates
@@ -69,10 +78,45 @@ module _ {A X : Type 0} (view : X → Answer A) where
   unfolding Evaluates IsPast
   deep_past o a b e = inl e
 
+-- both of two evaluations, one after the other
+module _ {A B C X Y Z : Type 0} (f : A → B → C) (view : X → Answer A) (view' : Y → Answer B) (view'' : Z → Answer C) (o : Out FileValue A) (p : Out FileValue B) where
+  pub evaluates_both : (a b c : ℕ) (x : X) (y : Y) (z : Z) → Evaluates view o a b (Ok x) → Evaluates view' p b c (Ok y) → view'' z ≡ join f (view x) (view' y) → Evaluates view'' (both f o p) a c (Ok z)
+  unfolding Evaluates
+  evaluates_both a b c x y z h g e =
+      record {
+        gives = ap (λ q. join f q p.answer) h.gives ∙ ap (join f (view x)) g.gives ∙ sym e;
+        counted = omega (arith, h.counted, g.counted, count-append o.events p.events);
+        fits = g.fits;
+      }
+
+  deep_left : (q : Answer B) → join f Deep q ≡ Deep
+  deep_left q = refl
+
+  deep_right : (q : Answer A) → join f q Deep ≡ Deep
+  deep_right (Gives a) = refl
+  deep_right (Failed e) = refl
+  deep_right Deep = refl
+
+  pub left_err : (a b c : ℕ) (s : Stop) → Evaluates view o a b (Err s) → Evaluates view'' (both f o p) a c (Err s)
+  unfolding Evaluates IsPast
+  left_err a b c TooLarge (inl d) = inl (ap (λ q. join f q p.answer) d)
+  left_err a b c TooLarge (inr l) = inr (omega (arith, count-append o.events p.events))
+  left_err a b c OutOfMemory h = tt
+
+  pub right_err : (a b c : ℕ) (x : X) (s : Stop) → Evaluates view o a b (Ok x) → Evaluates view' p b c (Err s) → Evaluates view'' (both f o p) a c (Err s)
+  unfolding Evaluates IsPast
+  right_err a b c x TooLarge h (inl d) = inl (ap (join f o.answer) d ∙ deep_right o.answer)
+  right_err a b c x TooLarge h (inr l) = inr (omega (arith, h.counted, count-append o.events p.events))
+  right_err a b c x OutOfMemory h g = tt
+
+-- ---- one expression
+
 -- the other kinds of expression
 abbrev pub IsOther : Lazy-F FileValue (Lazy FileValue) → Type 0
 IsOther (Lazy-F.Val v) = ⊥
 IsOther (Lazy-F.Call t es ks) = ⊥
+IsOther (Lazy-F.ListOf es) = ⊥
+IsOther (Lazy-F.DictOf ps) = ⊥
 IsOther _ = Unit {0}
 
 abbrev pub NoVal : Lazy FileValue → Type 0
@@ -81,156 +125,227 @@ NoVal e = (v : Datum FileValue) → e ≡ lazy.Val v → ⊥
 abbrev pub NoCall : Lazy FileValue → Type 0
 NoCall e = (t : List ℕ) (es : List (Lazy FileValue)) (ks : List (List ℕ × Lazy FileValue)) → e ≡ lazy.Call t es ks → ⊥
 
-other_layer : (x : Lazy-F FileValue (Lazy FileValue)) → NoVal (made.roll-Lazy FileValue x) → NoCall (made.roll-Lazy FileValue x) → IsOther x
+abbrev pub NoList : Lazy FileValue → Type 0
+NoList e = (es : List (Lazy FileValue)) → e ≡ lazy.ListOf es → ⊥
+
+abbrev pub NoDict : Lazy FileValue → Type 0
+NoDict e = (ps : List (Datum FileValue × Lazy FileValue)) → e ≡ lazy.DictOf ps → ⊥
+
+lazy_layer : (x : Lazy-F FileValue (Lazy FileValue)) → NoVal (made.roll-Lazy FileValue x) → (at_zero x).answer ≡ Deep
 unfolding made.roll-Lazy denote.Hole.Carrier.roll
-other_layer (Lazy-F.Val v) nv nc = nv v refl
-other_layer (Lazy-F.Call t es ks) nv nc = nc t es ks refl
-other_layer x nv nc = tt
+lazy_layer (Lazy-F.Val v) nv = absurd (nv v refl)
+lazy_layer x nv = refl
 
-other : (e : Lazy FileValue) → NoVal e → NoCall e → IsOther (out-Lazy FileValue e)
-other e nv nc =
-    other_layer (out-Lazy FileValue e) (subst NoVal (sym (roll-out-Lazy FileValue e)) nv) (subst NoCall (sym (roll-out-Lazy FileValue e)) nc)
+other_layer : (x : Lazy-F FileValue (Lazy FileValue)) → NoVal (made.roll-Lazy FileValue x) → NoCall (made.roll-Lazy FileValue x) → NoList (made.roll-Lazy FileValue x) → NoDict (made.roll-Lazy FileValue x) → IsOther x
+unfolding made.roll-Lazy denote.Hole.Carrier.roll
+other_layer (Lazy-F.Val v) nv nc nl nd = nv v refl
+other_layer (Lazy-F.Call t es ks) nv nc nl nd = nc t es ks refl
+other_layer (Lazy-F.ListOf es) nv nc nl nd = nl es refl
+other_layer (Lazy-F.DictOf ps) nv nc nl nd = nd ps refl
+other_layer x nv nc nl nd = tt
 
-zero_other : (x : Lazy-F FileValue (Lazy FileValue)) → IsOther x → (at_zero x).answer ≡ Deep
-zero_other (Lazy-F.Val v) h = absurd h
-zero_other (Lazy-F.Call t es ks) h = absurd h
-zero_other x h = refl
+other : (e : Lazy FileValue) → NoVal e → NoCall e → NoList e → NoDict e → IsOther (out-Lazy FileValue e)
+other e nv nc nl nd =
+    let back = sym (roll-out-Lazy FileValue e) in
+    other_layer (out-Lazy FileValue e) (subst NoVal back nv) (subst NoCall back nc) (subst NoList back nl) (subst NoDict back nd)
 
-module _ (calls : List ℕ → List (Datum FileValue) → Out FileValue (Datum FileValue)) (ev : Lazy FileValue → Out FileValue (Datum FileValue)) where
-  step_other : (x : Lazy-F FileValue (Lazy FileValue)) → IsOther x → (step calls ev x).answer ≡ Deep
-  step_other (Lazy-F.Val v) h = absurd h
-  step_other (Lazy-F.Call t es ks) h = absurd h
-  step_other x h = refl
+module _ (calls : List ℕ → Arguments FileValue → Out FileValue (Datum FileValue)) (ev : Lazy FileValue → Out FileValue (Datum FileValue)) where
+  step_deep : (x : Lazy-F FileValue (Lazy FileValue)) → IsOther x → (step own calls ev x).answer ≡ Deep
+  step_deep (Lazy-F.Val v) h = absurd h
+  step_deep (Lazy-F.Call t es ks) h = absurd h
+  step_deep (Lazy-F.ListOf es) h = absurd h
+  step_deep (Lazy-F.DictOf ps) h = absurd h
+  step_deep x h = refl
 
-  step_keywords : (t : List ℕ) (es : List (Lazy FileValue)) (ks : List (List ℕ × Lazy FileValue)) → 0 < length ks → (step calls ev (Lazy-F.Call t es ks)).answer ≡ Deep
-  step_keywords t es [] h = absurd (omega arith)
-  step_keywords t es (k ∷ ks) h = refl
+module _ (m : Module) (e : Lazy FileValue) where
+  pub zero_val : (a : ℕ) (v : Datum FileValue) → a ≤ most_met → e ≡ lazy.Val v → Evaluates answer_of (at_depth m 0 e) a a (Ok (outcome.Value v))
+  unfolding at_depth run
+  zero_val a v l is =
+      subst (λ o. Evaluates answer_of o a a (Ok (outcome.Value v))) (sym (ap (λ x. at_zero (out-Lazy FileValue x)) is ∙ ap at_zero (lazy.outs-Val v))) (plain_ok answer_of (Gives v) a (outcome.Value v) l refl)
 
--- one expression
-module _ (m : Module) (n : ℕ) (e : Lazy FileValue) where
-  abbrev calls : ℕ → List ℕ → List (Datum FileValue) → Out FileValue (Datum FileValue)
-  calls k = calling own m (run own m k)
+  pub zero_other : (a b : ℕ) → NoVal e → Evaluates answer_of (at_depth m 0 e) a b (Err TooLarge)
+  unfolding at_depth run
+  zero_other a b nv = deep_past answer_of (at_zero (out-Lazy FileValue e)) a b (lazy_layer (out-Lazy FileValue e) (subst NoVal (sym (roll-out-Lazy FileValue e)) nv))
 
-  at_val : (k : ℕ) (v : Datum FileValue) → run own m k (lazy.Val v) ≡ plain (Gives v)
-  unfolding run
-  at_val zero v = ap at_zero (lazy.outs-Val v)
-  at_val (suc k) v = ap (step (calls k) (run own m k)) (lazy.outs-Val v)
+  module _ (n : ℕ) where
+    pub expression_zero : (a : ℕ) (r : Result Outcome Stop) → n ≡ 0 → Evaluates answer_of (at_depth m 0 e) a a r → Evaluates answer_of (at_depth m n e) a a r
+    expression_zero a r none h = subst (λ k. Evaluates answer_of (at_depth m k e) a a r) (sym none) h
 
-  at_call : (k : ℕ) (t : List ℕ) (es : List (Lazy FileValue)) → run own m (suc k) (lazy.Call t es []) ≡ then_ (parts (run own m k) es) (calls k t) failing
-  unfolding run
-  at_call k t es = ap (step (calls k) (run own m k)) (lazy.outs-Call t es [])
+    pub expression_step : (a b : ℕ) (r : Result Outcome Stop) → 0 < n → Evaluates answer_of (step_out m (n - 1) e) a b r → Evaluates answer_of (at_depth m n e) a b r
+    unfolding at_depth step_out run
+    expression_step a b r some h =
+        let deep : suc (n - 1) ≡ n = omega arith in
+        subst (λ k. Evaluates answer_of (run own m k e) a b r) deep h
 
-  at_call_zero : (t : List ℕ) (es : List (Lazy FileValue)) (ks : List (List ℕ × Lazy FileValue)) → (run own m zero (lazy.Call t es ks)).answer ≡ Deep
-  unfolding run
-  at_call_zero t es ks = ap (λ x. (at_zero x).answer) (lazy.outs-Call t es ks)
+    abbrev calls : List ℕ → Arguments FileValue → Out FileValue (Datum FileValue)
+    calls = calling own m (at_depth m n)
 
-  at_keywords : (k : ℕ) (t : List ℕ) (es : List (Lazy FileValue)) (ks : List (List ℕ × Lazy FileValue)) → 0 < length ks → (run own m k (lazy.Call t es ks)).answer ≡ Deep
-  unfolding run
-  at_keywords zero t es ks h = at_call_zero t es ks
-  at_keywords (suc k) t es ks h = ap (λ x. (step (calls k) (run own m k) x).answer) (lazy.outs-Call t es ks) ∙ step_keywords (calls k) (run own m k) t es ks h
+    -- the step at the layer that is there
+    at_layer : (a b : ℕ) (r : Result Outcome Stop) (x : Lazy-F FileValue (Lazy FileValue)) → out-Lazy FileValue e ≡ x → Evaluates answer_of (step own calls (at_depth m n) x) a b r → Evaluates answer_of (step_out m n e) a b r
+    unfolding step_out
+    at_layer a b r x is h = subst (λ y. Evaluates answer_of (step own calls (at_depth m n) y) a b r) (sym is) h
 
-  at_other : (k : ℕ) → IsOther (out-Lazy FileValue e) → (run own m k e).answer ≡ Deep
-  unfolding run
-  at_other zero h = zero_other (out-Lazy FileValue e) h
-  at_other (suc k) h = step_other (calls k) (run own m k) (out-Lazy FileValue e) h
+    pub step_val : (a : ℕ) (v : Datum FileValue) → a ≤ most_met → e ≡ lazy.Val v → Evaluates answer_of (step_out m n e) a a (Ok (outcome.Value v))
+    step_val a v l is = at_layer a a (Ok (outcome.Value v)) (Lazy-F.Val v) (ap (out-Lazy FileValue) is ∙ lazy.outs-Val v) (plain_ok answer_of (Gives v) a (outcome.Value v) l refl)
 
-  pub expression_val : (a : ℕ) (v : Datum FileValue) → a ≤ most_met → e ≡ lazy.Val v → Evaluates answer_of (at_depth m n e) a a (Ok (outcome.Value v))
-  unfolding at_depth
-  expression_val a v l is =
-      subst (λ o. Evaluates answer_of o a a (Ok (outcome.Value v))) (sym (ap (run own m n) is ∙ at_val n v)) (plain_ok answer_of (Gives v) a (outcome.Value v) l refl)
+    pub step_call : (a b : ℕ) (t : List ℕ) (es : List (Lazy FileValue)) (ks : List (List ℕ × Lazy FileValue)) (r : Result Outcome Stop) → e ≡ lazy.Call t es ks
+        → Evaluates answer_of (after (arguments_out m n es ks) (values_out m n t)) a b r → Evaluates answer_of (step_out m n e) a b r
+    unfolding after arguments_out values_out
+    step_call a b t es ks r is h = at_layer a b r (Lazy-F.Call t es ks) (ap (out-Lazy FileValue) is ∙ lazy.outs-Call t es ks) h
 
-  pub expression_call : (a b k : ℕ) (t : List ℕ) (es : List (Lazy FileValue)) (ks : List (List ℕ × Lazy FileValue)) (r : Result Outcome Stop) → e ≡ lazy.Call t es ks → ks ≡ [] → n ≡ suc k → Evaluates answer_of (call_out m k t es) a b r → Evaluates answer_of (at_depth m n e) a b r
-  unfolding at_depth call_out
-  expression_call a b k t es ks r is none deep h =
-      subst (λ o. Evaluates answer_of o a b r) (sym (ap (run own m n) is ∙ ap (λ q. run own m n (lazy.Call t es q)) none ∙ ap (λ j. run own m j (lazy.Call t es [])) deep ∙ at_call k t es)) h
+    pub step_list : (a b : ℕ) (es : List (Lazy FileValue)) (r : Result Outcome Stop) → e ≡ lazy.ListOf es → Evaluates answer_of (after (parts_out m n es) (fresh.listed own)) a b r → Evaluates answer_of (step_out m n e) a b r
+    unfolding after parts_out
+    step_list a b es r is h = at_layer a b r (Lazy-F.ListOf es) (ap (out-Lazy FileValue) is ∙ lazy.outs-ListOf es) h
 
-  pub expression_zero : (a b : ℕ) (t : List ℕ) (es : List (Lazy FileValue)) (ks : List (List ℕ × Lazy FileValue)) → e ≡ lazy.Call t es ks → n ≡ 0 → Evaluates answer_of (at_depth m n e) a b (Err TooLarge)
-  unfolding at_depth
-  expression_zero a b t es ks is none = deep_past answer_of (run own m n e) a b (ap (λ j. (run own m j e).answer) none ∙ ap (λ x. (run own m zero x).answer) is ∙ at_call_zero t es ks)
+    pub step_dict : (a b : ℕ) (ps : List (Datum FileValue × Lazy FileValue)) (r : Result Outcome Stop) → e ≡ lazy.DictOf ps → Evaluates answer_of (after (seconds_out m n ps) (fresh.keyed own)) a b r → Evaluates answer_of (step_out m n e) a b r
+    unfolding after seconds_out
+    step_dict a b ps r is h = at_layer a b r (Lazy-F.DictOf ps) (ap (out-Lazy FileValue) is ∙ lazy.outs-DictOf ps) h
 
-  pub expression_keywords : (a b : ℕ) (t : List ℕ) (es : List (Lazy FileValue)) (ks : List (List ℕ × Lazy FileValue)) → e ≡ lazy.Call t es ks → 0 < length ks → Evaluates answer_of (at_depth m n e) a b (Err TooLarge)
-  unfolding at_depth
-  expression_keywords a b t es ks is some = deep_past answer_of (run own m n e) a b (ap (λ x. (run own m n x).answer) is ∙ at_keywords n t es ks some)
+    pub step_other : (a b : ℕ) → NoVal e → NoCall e → NoList e → NoDict e → Evaluates answer_of (step_out m n e) a b (Err TooLarge)
+    unfolding step_out
+    step_other a b nv nc nl nd = deep_past answer_of (step_out m n e) a b (step_deep calls (at_depth m n) (out-Lazy FileValue e) (other e nv nc nl nd))
 
-  pub expression_other : (a b : ℕ) → NoVal e → NoCall e → Evaluates answer_of (at_depth m n e) a b (Err TooLarge)
-  unfolding at_depth
-  expression_other a b nv nc = deep_past answer_of (run own m n e) a b (at_other n (other e nv nc))
+pub ruleset zero_rules = (zero_val, zero_other, no_memory)
 
-pub ruleset expression_rules = (expression_val, expression_zero, expression_keywords, no_memory)
+pub ruleset expression_rules = (expression_zero, expression_step)
 
-pub none_by_length : {A : Type 0} (xs : List A) → length xs ≡ 0 → xs ≡ []
-none_by_length [] h = refl
-none_by_length (x ∷ xs) h = absurd (omega arith)
+pub ruleset step_rules = (step_val, step_call, step_list, step_dict, step_other, no_memory)
 
--- a call, from what its arguments came to
-module _ (m : Module) (k : ℕ) (t : List ℕ) (es : List (Lazy FileValue)) where
-  pub call_all : (a b c : ℕ) (vs : List (Datum FileValue)) (r : Result Outcome Stop) → Evaluates answers_of (parts (at_depth m k) es) a b (Ok (gathered.All vs)) → Evaluates answer_of (values_out m k t vs) b c r → Evaluates answer_of (call_out m k t es) a c r
-  unfolding Evaluates call_out values_out
-  call_all a b c vs r h g =
-      subst (λ q. Evaluates answer_of (before (parts (at_depth m k) es).events (on_answer q (calling own m (at_depth m k) t) failing)) a c r) (sym h.gives)
-      (evaluates_before answer_of (parts (at_depth m k) es).events (calling own m (at_depth m k) t vs) a b c r h.counted g)
+-- ---- what comes of evaluated parts
 
-  pub call_failed : (a b : ℕ) (f : Failure) → Evaluates answers_of (parts (at_depth m k) es) a b (Ok (gathered.Failed f)) → Evaluates answer_of (call_out m k t es) a b (Ok (outcome.Failed f))
-  unfolding Evaluates call_out
-  call_failed a b f h =
-      subst (λ q. Evaluates answer_of (before (parts (at_depth m k) es).events (on_answer q (calling own m (at_depth m k) t) failing)) a b (Ok (outcome.Failed f))) (sym h.gives)
-      (evaluates_before answer_of (parts (at_depth m k) es).events (failing f) a b b (Ok (outcome.Failed f)) h.counted (plain_ok answer_of (Failed f) b (outcome.Failed f) h.fits refl))
+module _ {A : Type 0} (o : Out FileValue A) (go : A → Out FileValue (Datum FileValue)) where
+  pub after_all : (a b c : ℕ) (x : A) (r : Result Outcome Stop) → Evaluates answers_of o a b (Ok (gathered.All x)) → Evaluates answer_of (go x) b c r → Evaluates answer_of (after o go) a c r
+  unfolding Evaluates after
+  after_all a b c x r h g =
+      subst (λ q. Evaluates answer_of (before o.events (on_answer q go failing)) a c r) (sym h.gives) (evaluates_before answer_of o.events (go x) a b c r h.counted g)
 
-  pub call_err : (a b : ℕ) (s : Stop) → Evaluates answers_of (parts (at_depth m k) es) a b (Err s) → Evaluates answer_of (call_out m k t es) a b (Err s)
-  unfolding Evaluates IsPast call_out
-  call_err a b TooLarge (inl d) = inl (ap (λ q. (on_answer q (calling own m (at_depth m k) t) failing).answer) d)
-  call_err a b TooLarge (inr l) = inr (omega (arith, count-append (parts (at_depth m k) es).events (on_answer (parts (at_depth m k) es).answer (calling own m (at_depth m k) t) failing).events))
-  call_err a b OutOfMemory h = tt
+  pub after_failed : (a b : ℕ) (f : Failure) → Evaluates answers_of o a b (Ok (gathered.Failed f)) → Evaluates answer_of (after o go) a b (Ok (outcome.Failed f))
+  unfolding Evaluates after
+  after_failed a b f h =
+      subst (λ q. Evaluates answer_of (before o.events (on_answer q go failing)) a b (Ok (outcome.Failed f))) (sym h.gives)
+      (evaluates_before answer_of o.events (failing f) a b b (Ok (outcome.Failed f)) h.counted (plain_ok answer_of (Failed f) b (outcome.Failed f) h.fits refl))
 
-pub ruleset call_rules = (call_all, call_failed, call_err)
+  pub after_err : (a b : ℕ) (s : Stop) → Evaluates answers_of o a b (Err s) → Evaluates answer_of (after o go) a b (Err s)
+  unfolding Evaluates IsPast after
+  after_err a b TooLarge (inl d) = inl (ap (λ q. (on_answer q go failing).answer) d)
+  after_err a b TooLarge (inr l) = inr (omega (arith, count-append o.events (on_answer o.answer go failing).events))
+  after_err a b OutOfMemory h = tt
 
--- a call of values, from the task that is found and the binding
-module _ (m : Module) (k : ℕ) (t : List ℕ) (vs : List (Datum FileValue)) where
-  pub enter_none : (a : ℕ) (found : Option (Bor Function)) (f : Failure) → a ≤ most_met → option_copied found ≡ find t m.functions → found ≡ None → f ≡ in_task [] (raised NameError t) → Evaluates answer_of (values_out m k t vs) a a (Ok (outcome.Failed f))
-  unfolding values_out count_met
-  enter_none a found f l is none same =
-      subst (λ o. Evaluates answer_of (call own (at_depth m k) o t vs) a a (Ok (outcome.Failed f))) (sym (ap option_copied none) ∙ is)
-      (evaluates_before answer_of (event (Unbound t) ∷ []) (failing (in_task [] (raised NameError t))) a a a (Ok (outcome.Failed f)) (omega arith) (plain_ok answer_of (Failed (in_task [] (raised NameError t))) a (outcome.Failed f) l (ap Failed (sym same))))
+-- what is made of values tells of nothing
+made_silent : (q : Result (Datum FileValue) ErrorValue) → (fresh.made q).events ≡ []
+made_silent (Ok v) = refl
+made_silent (Err e) = refl
 
-  pub enter_bound : (a c : ℕ) (found : Option (Bor Function)) (f : Bor Function) (args : List (Datum FileValue)) (r : Result Outcome Stop) → option_copied found ≡ find t m.functions → found ≡ Some f → bind own f.now.parameters vs ≡ Ok args → Evaluates answer_of (body_out m k f.now args) a c r → Evaluates answer_of (values_out m k t vs) a c r
-  unfolding values_out body_out
-  enter_bound a c found f args r is some bound h =
-      subst (λ o. Evaluates answer_of (call own (at_depth m k) o t vs) a c r) (sym (ap option_copied some) ∙ is)
-      (subst (λ b. Evaluates answer_of (entered own (at_depth m k) f.now b) a c r) (sym bound) h)
+pub after_list : (o : Out FileValue (List (Datum FileValue))) (a b : ℕ) (vs : List (Datum FileValue)) (x : Outcome) → b ≤ most_met → Evaluates answers_of o a b (Ok (gathered.All vs)) → answer_of x ≡ (fresh.made (kept own (value.List vs))).answer
+    → Evaluates answer_of (after o (fresh.listed own)) a b (Ok x)
+after_list o a b vs x l h e =
+    after_all o (fresh.listed own) a b b vs (Ok x) h (silent_ok answer_of (fresh.listed own vs) b x l (made_silent (kept own (value.List vs))) (sym e))
 
-  pub enter_unbound : (a : ℕ) (found : Option (Bor Function)) (f : Bor Function) (e : ErrorValue) (g : Failure) → a ≤ most_met → option_copied found ≡ find t m.functions → found ≡ Some f → bind own f.now.parameters vs ≡ Err e → g ≡ in_task f.now.name e → Evaluates answer_of (values_out m k t vs) a a (Ok (outcome.Failed g))
-  unfolding values_out count_met
-  enter_unbound a found f e g l is some bound same =
-      subst (λ o. Evaluates answer_of (call own (at_depth m k) o t vs) a a (Ok (outcome.Failed g))) (sym (ap option_copied some) ∙ is)
-      (subst (λ b. Evaluates answer_of (entered own (at_depth m k) f.now b) a a (Ok (outcome.Failed g))) (sym bound)
-      (evaluates_before answer_of (event (Unbound f.now.name) ∷ []) (failing (in_task f.now.name e)) a a a (Ok (outcome.Failed g)) (omega arith) (plain_ok answer_of (Failed (in_task f.now.name e)) a (outcome.Failed g) l (ap Failed (sym same)))))
+pub after_dict : (o : Out FileValue (List (Datum FileValue × Datum FileValue))) (a b : ℕ) (vs : List (Datum FileValue × Datum FileValue)) (x : Outcome) → b ≤ most_met → Evaluates answers_of o a b (Ok (gathered.All vs)) → answer_of x ≡ (fresh.made (kept own (value.Dict vs))).answer
+    → Evaluates answer_of (after o (fresh.keyed own)) a b (Ok x)
+after_dict o a b vs x l h e =
+    after_all o (fresh.keyed own) a b b vs (Ok x) h (silent_ok answer_of (fresh.keyed own vs) b x l (made_silent (kept own (value.Dict vs))) (sym e))
+
+pub ruleset after_rules = (after_all, after_failed, after_err, after_list, after_dict, no_memory)
+
+-- ---- arguments
+
+module _ (m : Module) (k : ℕ) (es : List (Lazy FileValue)) (ks : List (List ℕ × Lazy FileValue)) where
+  pub arguments_both : (a b c : ℕ) (x : Gathered (List (Datum FileValue))) (y : Gathered (List (List ℕ × Datum FileValue))) (z : Gathered (Arguments FileValue))
+      → Evaluates answers_of (parts_out m k es) a b (Ok x) → Evaluates answers_of (seconds_out m k ks) b c (Ok y) → answers_of z ≡ join fresh.paired (answers_of x) (answers_of y) → Evaluates answers_of (arguments_out m k es ks) a c (Ok z)
+  unfolding arguments_out parts_out seconds_out
+  arguments_both a b c x y z h g e = evaluates_both fresh.paired answers_of answers_of answers_of (fresh.parts (at_depth m k) es) (fresh.seconds (at_depth m k) ks) a b c x y z h g e
+
+  pub arguments_left : (a b c : ℕ) (s : Stop) → Evaluates answers_of (parts_out m k es) a b (Err s) → Evaluates answers_of (arguments_out m k es ks) a c (Err s)
+  unfolding arguments_out parts_out
+  arguments_left a b c s h = left_err fresh.paired answers_of (answers_of {A = List (List ℕ × Datum FileValue)}) answers_of (fresh.parts (at_depth m k) es) (fresh.seconds (at_depth m k) ks) a b c s h
+
+  pub arguments_right : (a b c : ℕ) (x : Gathered (List (Datum FileValue))) (s : Stop) → Evaluates answers_of (parts_out m k es) a b (Ok x) → Evaluates answers_of (seconds_out m k ks) b c (Err s) → Evaluates answers_of (arguments_out m k es ks) a c (Err s)
+  unfolding arguments_out parts_out seconds_out
+  arguments_right a b c x s h g = right_err fresh.paired answers_of answers_of answers_of (fresh.parts (at_depth m k) es) (fresh.seconds (at_depth m k) ks) a b c x s h g
+
+pub ruleset both_rules = (arguments_both, arguments_left, arguments_right)
+
+-- ---- a call of values, from the task that is found and the binding
+
+bound_ok : {A : Type 0} (t : List ℕ) (q : Result A ErrorValue) (r : Result A StepError) (x : A) → ComesTo r (step_in t q) → r ≡ Ok x → q ≡ Ok x
+bound_ok t (Ok y) r x (inl i) e = cc
+bound_ok t (Ok y) r x (inr j) e = absurd cc
+bound_ok t (Err y) r x (inl i) e = absurd cc
+bound_ok t (Err y) r x (inr j) e = absurd cc
+
+bound_err : {A : Type 0} (t : List ℕ) (q : Result A ErrorValue) (r : Result A StepError) (g : Failure) → ComesTo r (step_in t q) → r ≡ Err (step_error.Failed g) → (e : ErrorValue) × (q ≡ Err e) × (g ≡ failure_in t e)
+bound_err t (Ok y) r g (inl i) e = absurd cc
+bound_err t (Ok y) r g (inr j) e = absurd cc
+bound_err t (Err y) r g (inl i) e = (y, refl, cc)
+bound_err t (Err y) r g (inr j) e = absurd cc
+
+module _ (m : Module) (k : ℕ) (t : List ℕ) (args : Arguments FileValue) where
+  -- what was found of the task
+  abbrev pub IsFound : Option (Bor Task) → Type 0
+  IsFound found = MatchOption found (find_task m t ≡ None) (λ b. (f : Function) × (find_task m t ≡ Some f) × IsTaskOf m f b.now)
+
+  called : (a c : ℕ) (o : Option Function) (r : Result Outcome Stop) → find_task m t ≡ o → Evaluates answer_of (call own m (at_depth m k) t o args) a c r → Evaluates answer_of (values_out m k t args) a c r
+  unfolding values_out
+  called a c o r is h = subst (λ q. Evaluates answer_of (call own m (at_depth m k) t q args) a c r) (sym is) h
+
+  unbound : (a : ℕ) (g h : Failure) → a ≤ most_met → g ≡ h → Evaluates answer_of (before (event (Unbound t) ∷ []) (failing h)) a a (Ok (outcome.Failed g))
+  unfolding count_met
+  unbound a g h l same = evaluates_before answer_of (event (Unbound t) ∷ []) (failing h) a a a (Ok (outcome.Failed g)) (omega arith) (plain_ok answer_of (Failed h) a (outcome.Failed g) l (ap Failed (sym same)))
+
+  pub enter_none : (a : ℕ) (found : Option (Bor Task)) (g : Failure) → a ≤ most_met → IsFound found → found ≡ None → g ≡ failure_in [] (raised NameError t) → Evaluates answer_of (values_out m k t args) a a (Ok (outcome.Failed g))
+  enter_none a found g l is none same = called a a None (Ok (outcome.Failed g)) (subst IsFound none is) (unbound a g (failure_in [] (raised NameError t)) l same)
+
+  module _ (found : Option (Bor Task)) (b : Bor Task) (is : IsFound found) (some : found ≡ Some b) (q : Result (List (Datum FileValue)) StepError) (comes : ComesTo q (step_in t (bind own (parameters_of b.now.signature) args.0 args.1))) where
+    there : (f : Function) × (find_task m t ≡ Some f) × IsTaskOf m f b.now
+    there = subst IsFound some is
+
+    bound : Result (List (Datum FileValue)) ErrorValue
+    bound = bind own (signature_of there.0) args.0 args.1
+
+    same_bound : bind own (parameters_of b.now.signature) args.0 args.1 ≡ bound
+    unfolding bound
+    same_bound = ap (λ ps. bind own ps args.0 args.1) (task_parameters m there.0 b.now there.2)
+
+    entered_by : (a c : ℕ) (x : Result (List (Datum FileValue)) ErrorValue) (r : Result Outcome Stop) → bound ≡ x → Evaluates answer_of (entered own m (at_depth m k) t there.0 x) a c r → Evaluates answer_of (values_out m k t args) a c r
+    unfolding bound
+    entered_by a c x r same h = called a c (Some there.0) r there.1 (subst (λ y. Evaluates answer_of (entered own m (at_depth m k) t there.0 y) a c r) (sym same) h)
+
+    pub enter_bound : (a c : ℕ) (vs : List (Datum FileValue)) (r : Result Outcome Stop) → q ≡ Ok vs → ((f : Function) → IsTaskOf m f b.now → Evaluates answer_of (body_out m k t f vs) a c r) → Evaluates answer_of (values_out m k t args) a c r
+    unfolding body_out
+    enter_bound a c vs r ok h = entered_by a c (Ok vs) r (sym same_bound ∙ bound_ok t _ q vs comes ok) (h there.0 there.2)
+
+    pub enter_unbound : (a : ℕ) (g : Failure) → a ≤ most_met → q ≡ Err (step_error.Failed g) → Evaluates answer_of (values_out m k t args) a a (Ok (outcome.Failed g))
+    enter_unbound a g l err =
+        let e = bound_err t (bind own (parameters_of b.now.signature) args.0 args.1) q g comes err in
+        entered_by a a (Err e.0) (Ok (outcome.Failed g)) (sym same_bound ∙ e.1) (unbound a g (failure_in t e.0) l e.2)
 
 pub ruleset enter_rules = (enter_none, enter_bound, enter_unbound, no_memory)
 
--- a bound call, from what its body comes to
-module _ (m : Module) (k : ℕ) (f : Function) (args : List (Datum FileValue)) where
-  abbrev first : List (Event FileValue)
-  first = event (Bound (visit own f.name args)) ∷ []
+-- ---- a bound call, from what its body comes to
 
-  body_any : (a c : ℕ) (r : Result Outcome Stop) → Evaluates answer_of (on_reduction (at_depth m k) (body own f args)) a c r → Evaluates answer_of (body_out m k f args) a c r
+module _ (m : Module) (k : ℕ) (t : List ℕ) (f : Function) (args : List (Datum FileValue)) where
+  body_any : (a c : ℕ) (r : Result Outcome Stop) → Evaluates answer_of (on_body (at_depth m k) t (body own m f args)) a c r → Evaluates answer_of (body_out m k t f args) a c r
   unfolding body_out count_met
   body_any a c r h =
-      evaluates_before answer_of first (inside (visit own f.name args) (on_reduction (at_depth m k) (body own f args))) a a c r (omega arith)
-      (evaluates_inside answer_of (visit own f.name args) (on_reduction (at_depth m k) (body own f args)) a c r h)
+      let o = on_body (at_depth m k) t (body own m f args) in
+      evaluates_before answer_of (event (Bound (visit t args)) ∷ []) (inside (visit t args) o) a a c r (omega arith) (evaluates_inside answer_of (visit t args) o a c r h)
 
-  pub body_gives : (a c : ℕ) (given : List (Datum FileValue)) (x : Reduction) (e : Lazy FileValue) (r : Result Outcome Stop) → given ≡ args → reduction_of x ≡ body own f given → x ≡ reduced.Expr e → Evaluates answer_of (met_out m k e) a c r → Evaluates answer_of (body_out m k f args) a c r
+  -- what the body came to
+  on_result : (a c : ℕ) (x : Result (Lazy FileValue) ErrorValue) (r : Result Outcome Stop) → x ≡ body own m f args → Evaluates answer_of (on_body (at_depth m k) t x) a c r → Evaluates answer_of (body_out m k t f args) a c r
+  on_result a c x r is h = body_any a c r (subst (λ q. Evaluates answer_of (on_body (at_depth m k) t q) a c r) is h)
+
+  pub body_gives : (a c : ℕ) (x : Result (Lazy FileValue) ErrorValue) (e : Lazy FileValue) (r : Result Outcome Stop) → x ≡ body own m f args → x ≡ Ok e → Evaluates answer_of (met_out m k e) a c r → Evaluates answer_of (body_out m k t f args) a c r
   unfolding met_out
-  body_gives a c given x e r same is gives h =
-      body_any a c r (subst (λ q. Evaluates answer_of (on_reduction (at_depth m k) q) a c r) (sym (ap reduction_of gives) ∙ is ∙ ap (body own f) same) h)
+  body_gives a c x e r is gives h = on_result a c (Ok e) r (sym gives ∙ is) h
 
-  pub body_fails : (a : ℕ) (given : List (Datum FileValue)) (x : Reduction) (g : Failure) → a ≤ most_met → given ≡ args → reduction_of x ≡ body own f given → x ≡ reduced.Failed g → Evaluates answer_of (body_out m k f args) a a (Ok (outcome.Failed g))
-  body_fails a given x g l same is fails =
-      body_any a a (Ok (outcome.Failed g)) (subst (λ q. Evaluates answer_of (on_reduction (at_depth m k) q) a a (Ok (outcome.Failed g))) (sym (ap reduction_of fails) ∙ is ∙ ap (body own f) same)
-      (plain_ok answer_of (Failed g) a (outcome.Failed g) l refl))
+  pub body_fails : (a : ℕ) (x : Result (Lazy FileValue) ErrorValue) (e : ErrorValue) (g : Failure) → a ≤ most_met → x ≡ body own m f args → x ≡ Err e → g ≡ failure_in t e → Evaluates answer_of (body_out m k t f args) a a (Ok (outcome.Failed g))
+  body_fails a x e g l is fails same = on_result a a (Err e) (Ok (outcome.Failed g)) (sym fails ∙ is) (plain_ok answer_of (Failed (failure_in t e)) a (outcome.Failed g) l (ap Failed (sym same)))
 
 pub ruleset body_rules = (body_gives, body_fails, no_memory)
 
--- an expression that is met
+-- ---- an expression that is met
+
 module _ (m : Module) (k : ℕ) (e : Lazy FileValue) where
   pub met_past : (a b n : ℕ) → n ≡ min (lazies e) (2 ^ 32 - 1) → most_met - a < n → a ≤ most_met → Evaluates answer_of (met_out m k e) a b (Err TooLarge)
   unfolding Evaluates IsPast met_out count_met

@@ -6,7 +6,7 @@ use Rattle.rd_value.specs.declared.failure.Outcome.{Outcome}
 use Rattle.rd_value.specs.declared.failure.Outcome.TheVariants as outcome
 use Rattle.rd_top.specs.declared.evaluate.Stop.{Stop}
 use Rattle.rd_top.specs.declared.evaluate.Stop.TheVariants.{TooLarge, OutOfMemory}
-use Rattle.rd_top.specs.declared.tree.Module.{Module}
+use Rattle.rd_tree.specs.declared.tree.Module.{Module}
 use Rattle.rd_top.specs.Running.{own}
 use Rattle.rd_top.specs.Fresh.{Deep, fresh, trace}
 use Rattle.rd_top.specs.Fits.{most_nested, Fits, FreshGives}

@@ -6,10 +6,12 @@ use Rattle.rd_value.specs.declared.value.Datum.{Datum}
 use Rattle.rd_value.specs.declared.expr.Lazy.{Lazy}
 use Rattle.rd_value.specs.declared.expr.Lazy.TheOpen.{Lazy-F}
 use Rattle.rd_value.specs.declared.failure.Failure.{Failure}
-use Rattle.rd_top.specs.declared.tree.Function.{Function}
-use Rattle.rd_top.specs.Bind.{bind}
-use Rattle.rd_top.specs.Body.{Reduction, Reduces, Fails, body}
-use Rattle.rd_top.specs.Fresh.{Visit, Bound, Met, Event, Out, failing, before, both, then_, event, inside, wrote, parts, prepended, go_on, on_reduction, entered, call, step}
+use Rattle.rd_value.specs.Bind.{bind}
+use Rattle.rd_tree.specs.declared.tree.Function.{Function}
+use Rattle.rd_tree.specs.declared.tree.Module.{Module}
+use Rattle.rd_program.specs.Program.{signature_of, body}
+use Rattle.rd_top.specs.Fresh as fresh
+use Rattle.rd_top.specs.Fresh.{Visit, Bound, Met, Event, Out, Arguments, failing, before, both, then_, event, inside, gathered, alone, beside, second, paired, parts, seconds, arguments, go_on, on_body, visit, entered, call, step}
 
 -- of two outcomes of one type
 abbrev pub Relation : Type 0 → Type 1
@@ -33,29 +35,43 @@ module _ {F : Type 0} (R : Relation F) (keeps : Keeps F R) where
   abbrev pub Evaluators : Evaluator → Evaluator → Type 0
   Evaluators ev ev' = (e : Lazy F) → Related (ev e) (ev' e)
 
-  parts_kept : (ev ev' : Evaluator) → Evaluators ev ev' → (es : List (Lazy F)) → R (List (Datum F)) (parts ev es) (parts ev' es)
-  parts_kept ev ev' u [] = keeps.same (List (Datum F)) _
-  parts_kept ev ev' u (e ∷ es) = keeps.pair (Datum F) (List (Datum F)) (List (Datum F)) prepended (ev e) (ev' e) (parts ev es) (parts ev' es) (u e) (parts_kept ev ev' u es)
+  gathered_kept : {X W : Type 0} (put : X → Datum F → W) (ev ev' : X → Out F (Datum F)) → ((x : X) → Related (ev x) (ev' x)) → (xs : List X) → R (List W) (gathered put ev xs) (gathered put ev' xs)
+  gathered_kept {X} {W} put ev ev' u [] = keeps.same (List W) _
+  gathered_kept {X} {W} put ev ev' u (x ∷ xs) = keeps.pair (Datum F) (List W) (List W) (λ v ws. put x v ∷ ws) (ev x) (ev' x) (gathered put ev xs) (gathered put ev' xs) (u x) (gathered_kept put ev ev' u xs)
 
-  pub step_kept : (calls calls' : List ℕ → List (Datum F) → Out F (Datum F)) → ((t : List ℕ) (vs : List (Datum F)) → Related (calls t vs) (calls' t vs)) → (ev ev' : Evaluator) → Evaluators ev ev' → (x : Lazy-F F (Lazy F)) → Related (step calls ev x) (step calls' ev' x)
-  step_kept calls calls' c ev ev' u (Lazy-F.Call task positional []) =
-      keeps.chain (List (Datum F)) (Datum F) (parts ev positional) (parts ev' positional) (calls task) (calls' task) failing failing (parts_kept ev ev' u positional) (c task) (λ f. keeps.same (Datum F) _)
-  step_kept calls calls' c ev ev' u (Lazy-F.Val v) = keeps.same (Datum F) _
-  step_kept calls calls' c ev ev' u x = keeps.same (Datum F) _
+  -- what comes of evaluated parts
+  after_kept : (A : Type 0) (o o' : Out F A) (go go' : A → Out F (Datum F)) → R A o o' → ((a : A) → Related (go a) (go' a)) → Related (then_ o go failing) (then_ o' go' failing)
+  after_kept A o o' go go' u w = keeps.chain A (Datum F) o o' go go' failing failing u w (λ f. keeps.same (Datum F) _)
 
-  reduction_kept : (ev ev' : Evaluator) → Evaluators ev ev' → (r : Reduction F) → Related (on_reduction ev r) (on_reduction ev' r)
-  reduction_kept ev ev' u (Reduces e ws) =
-      keeps.after (Datum F) (wrote ws) (go_on ev e) (go_on ev' e) (keeps.after (Datum F) (event (Met e) ∷ []) (ev e) (ev' e) (u e))
-  reduction_kept ev ev' u (Fails f) = keeps.same (Datum F) _
+  module _ (file : F → FileValue) (calls calls' : List ℕ → Arguments F → Out F (Datum F)) (c : (t : List ℕ) (args : Arguments F) → Related (calls t args) (calls' t args)) (ev ev' : Evaluator) (u : Evaluators ev ev') where
+    parts_kept : (es : List (Lazy F)) → R (List (Datum F)) (parts ev es) (parts ev' es)
+    parts_kept es = gathered_kept alone ev ev' u es
 
-  module _ (file : F → FileValue) (ev ev' : Evaluator) (u : Evaluators ev ev') where
-    entered_kept : (f : Function) (r : Result (List (Datum F)) ErrorValue) → Related (entered file ev f r) (entered file ev' f r)
+    seconds_kept : (K : Type 0) (ps : List (K × Lazy F)) → R (List (K × Datum F)) (seconds ev ps) (seconds ev' ps)
+    seconds_kept K ps = gathered_kept beside (second ev) (second ev') (λ p. u p.1) ps
+
+    pub step_kept : (x : Lazy-F F (Lazy F)) → Related (step file calls ev x) (step file calls' ev' x)
+    step_kept (Lazy-F.Call task positional keywords) =
+        after_kept (Arguments F) (arguments ev positional keywords) (arguments ev' positional keywords) (calls task) (calls' task)
+        (keeps.pair (List (Datum F)) (List (List ℕ × Datum F)) (Arguments F) paired (parts ev positional) (parts ev' positional) (seconds ev keywords) (seconds ev' keywords) (parts_kept positional) (seconds_kept (List ℕ) keywords)) (c task)
+    step_kept (Lazy-F.ListOf es) = after_kept (List (Datum F)) (parts ev es) (parts ev' es) (fresh.listed file) (fresh.listed file) (parts_kept es) (λ vs. keeps.same (Datum F) _)
+    step_kept (Lazy-F.DictOf ps) = after_kept (List (Datum F × Datum F)) (seconds ev ps) (seconds ev' ps) (fresh.keyed file) (fresh.keyed file) (seconds_kept (Datum F) ps) (λ vs. keeps.same (Datum F) _)
+    step_kept (Lazy-F.Val v) = keeps.same (Datum F) _
+    step_kept x = keeps.same (Datum F) _
+
+  module _ (file : F → FileValue) (m : Module) (ev ev' : Evaluator) (u : Evaluators ev ev') (task : List ℕ) where
+    body_kept : (r : Result (Lazy F) ErrorValue) → Related (on_body ev task r) (on_body ev' task r)
+    body_kept (Ok e) = keeps.after (Datum F) (event (Met e) ∷ []) (ev e) (ev' e) (u e)
+    body_kept (Err e) = keeps.same (Datum F) _
+
+    entered_kept : (f : Function) (r : Result (List (Datum F)) ErrorValue) → Related (entered file m ev task f r) (entered file m ev' task f r)
     entered_kept f (Ok args) =
-        let c : Visit F = record { task = f.name; args = args } in
-        keeps.after (Datum F) (event (Bound c) ∷ []) (inside c (on_reduction ev (body file f args))) (inside c (on_reduction ev' (body file f args)))
-        (keeps.within (Datum F) c (on_reduction ev (body file f args)) (on_reduction ev' (body file f args)) (reduction_kept ev ev' u (body file f args)))
+        let c : Visit F = visit task args in
+        let o = on_body ev task (body file m f args) in
+        let p = on_body ev' task (body file m f args) in
+        keeps.after (Datum F) (event (Bound c) ∷ []) (inside c o) (inside c p) (keeps.within (Datum F) c o p (body_kept (body file m f args)))
     entered_kept f (Err e) = keeps.same (Datum F) _
 
-    pub call_kept : (f : Option Function) (task : List ℕ) (vs : List (Datum F)) → Related (call file ev f task vs) (call file ev' f task vs)
-    call_kept None task vs = keeps.same (Datum F) _
-    call_kept (Some f) task vs = entered_kept f (bind file f.parameters vs)
+    pub call_kept : (f : Option Function) (args : Arguments F) → Related (call file m ev task f args) (call file m ev' task f args)
+    call_kept None args = keeps.same (Datum F) _
+    call_kept (Some f) args = entered_kept f (bind file (signature_of f) args.0 args.1)

@@ -1,125 +1,131 @@
 -- Parts that are evaluated one after the other.
-use Rattle.std.proofs.Common.{◌≡◌, ℕ, ◌+◌, ◌<◌, ◌≤◌, inl, inr, true, false, List, [], ◌∷◌, ◌++◌, length, drop, get_or, Option, None, Some, Ok, Err, refl, sym, ap, ◌∙◌, append_assoc, append-nil, arith}
-use Rattle.std.specs.Option.{is_some}
+use Rattle.std.proofs.Common.{◌≡◌, ℕ, ◌+◌, ◌<◌, ◌≤◌, inl, inr, List, [], ◌∷◌, ◌++◌, length, drop, get_or, Ok, Err, refl, sym, ap, ◌∙◌, append_assoc, append-nil, arith}
 use Rattle.rd_value.proofs.Walks.{item_first, none_left}
 use Rattle.rd_value.specs.declared.value.FileValue.{FileValue}
 use Rattle.rd_value.specs.declared.value.Datum.{Datum}
-use Rattle.rd_value.specs.declared.expr.Lazy.{Lazy}
 use Rattle.rd_value.specs.declared.failure.Failure.{Failure}
 use Rattle.rd_value.specs.declared.failure.Outcome.{Outcome}
 use Rattle.rd_value.specs.declared.failure.Outcome.TheVariants as outcome
+use Rattle.rd_top.specs.declared.evaluate.Gathered.{Gathered}
 use Rattle.rd_top.specs.declared.evaluate.Gathered.TheVariants as gathered
 use Rattle.rd_top.specs.declared.evaluate.Stop.{Stop}
 use Rattle.rd_top.specs.declared.evaluate.Stop.TheVariants.{TooLarge, OutOfMemory}
-use Rattle.rd_top.specs.Fresh.{Answer, Gives, Failed, Deep, Out, join, both, prepended, parts}
+use Rattle.rd_top.specs.Fresh as fresh
+use Rattle.rd_top.specs.Fresh.{Answer, Gives, Failed, Deep, Out, join, both}
 use Rattle.rd_top.specs.Fits.{most_met, count_met}
-use Rattle.rd_top.specs.Evaluating.{answer_of, answers_of, IsPast, Evaluates, ahead}
+use Rattle.rd_top.specs.Evaluating.{answer_of, answers_of, IsPast, Evaluates, ahead, in_front}
 use Rattle.rd_top.proofs.Evaluated.{count-append}
 
-abbrev Values : Type 0
-Values = List (Datum FileValue)
+module _ {W : Type 0} where
+  value_ahead : (put : Datum FileValue → W) (ws : List W) (v : Datum FileValue) (more : Answer (List W)) → ahead (gathered.All (ws ++ put v ∷ [])) more ≡ ahead (gathered.All ws) (in_front put (Gives v) more)
+  unfolding ahead in_front
+  value_ahead put ws v (Gives us) = ap Gives (append_assoc ws (put v ∷ []) us)
+  value_ahead put ws v (Failed g) = refl
+  value_ahead put ws v Deep = refl
 
-abbrev Behind : Type 0
-Behind = Answer Values
+  failure_ahead : (put : Datum FileValue → W) (ws : List W) (f : Failure) (more : Answer (List W)) → ahead (gathered.Failed f) more ≡ ahead (gathered.All ws) (in_front put (Failed f) more)
+  unfolding ahead in_front
+  failure_ahead put ws f (Gives us) = refl
+  failure_ahead put ws f (Failed g) = refl
+  failure_ahead put ws f Deep = refl
 
-ahead_value : (o : Option Failure) (vs : Values) (v : Datum FileValue) (more : Behind) → ahead o (vs ++ v ∷ []) more ≡ ahead o vs (join prepended (Gives v) more)
-unfolding ahead
-ahead_value None vs v (Gives ws) = ap Gives (append_assoc vs (v ∷ []) ws)
-ahead_value None vs v (Failed g) = refl
-ahead_value None vs v Deep = refl
-ahead_value (Some f) vs v (Gives ws) = refl
-ahead_value (Some f) vs v (Failed g) = refl
-ahead_value (Some f) vs v Deep = refl
+  first_ahead : (put : Datum FileValue → W) (f : Failure) (x : Outcome) (more : Answer (List W)) → ahead (gathered.Failed f) more ≡ ahead (gathered.Failed f) (in_front put (answer_of x) more)
+  unfolding ahead in_front
+  first_ahead put f (outcome.Value v) (Gives us) = refl
+  first_ahead put f (outcome.Value v) (Failed g) = refl
+  first_ahead put f (outcome.Value v) Deep = refl
+  first_ahead put f (outcome.Failed h) (Gives us) = refl
+  first_ahead put f (outcome.Failed h) (Failed g) = refl
+  first_ahead put f (outcome.Failed h) Deep = refl
 
-ahead_first : (vs : Values) (f : Failure) (more : Behind) → ahead (Some f) vs more ≡ ahead None vs (join prepended (Failed f) more)
-unfolding ahead
-ahead_first vs f (Gives ws) = refl
-ahead_first vs f (Failed g) = refl
-ahead_first vs f Deep = refl
+  pub take_value : (put : Datum FileValue → W) (g : Gathered (List W)) (x : Outcome) (v : Datum FileValue) (ws new : List W) (more : Answer (List W)) → g ≡ gathered.All ws → x ≡ outcome.Value v → new ≡ ws ++ put v ∷ []
+      → ahead (gathered.All new) more ≡ ahead g (in_front put (answer_of x) more)
+  take_value put g x v ws new more all is i =
+      ap (λ us. ahead (gathered.All us) more) i ∙ value_ahead put ws v more ∙ ap (λ y. ahead (gathered.All ws) (in_front put (answer_of y) more)) (sym is) ∙ ap (λ h. ahead h (in_front put (answer_of x) more)) (sym all)
 
-ahead_later : (vs : Values) (f g : Failure) (more : Behind) → ahead (Some f) vs more ≡ ahead (Some f) vs (join prepended (Failed g) more)
-unfolding ahead
-ahead_later vs f g (Gives ws) = refl
-ahead_later vs f g (Failed h) = refl
-ahead_later vs f g Deep = refl
+  pub take_failure : (put : Datum FileValue → W) (g : Gathered (List W)) (x : Outcome) (f : Failure) (ws : List W) (more : Answer (List W)) → g ≡ gathered.All ws → x ≡ outcome.Failed f
+      → ahead (gathered.Failed f) more ≡ ahead g (in_front put (answer_of x) more)
+  take_failure put g x f ws more all is =
+      failure_ahead put ws f more ∙ ap (λ y. ahead (gathered.All ws) (in_front put (answer_of y) more)) (sym is) ∙ ap (λ h. ahead h (in_front put (answer_of x) more)) (sym all)
 
-pub take_gives : (o : Option Failure) (x : Outcome) (v : Datum FileValue) (old new : Values) (more : Behind) → x ≡ outcome.Value v → new ≡ old ++ v ∷ [] → ahead o new more ≡ ahead o old (join prepended (answer_of x) more)
-take_gives o x v old new more e i = ap (λ vs. ahead o vs more) i ∙ ahead_value o old v more ∙ ap (λ y. ahead o old (join prepended (answer_of y) more)) (sym e)
+  pub take_later : (put : Datum FileValue → W) (g : Gathered (List W)) (x : Outcome) (f : Failure) (more : Answer (List W)) → g ≡ gathered.Failed f → ahead (gathered.Failed f) more ≡ ahead g (in_front put (answer_of x) more)
+  take_later put g x f more failed = first_ahead put f x more ∙ ap (λ h. ahead h (in_front put (answer_of x) more)) (sym failed)
 
-pub take_first : (o : Option Failure) (x : Outcome) (f : Failure) (vs : Values) (more : Behind) → x ≡ outcome.Failed f → is_some o ≡ false → ahead (Some f) vs more ≡ ahead o vs (join prepended (answer_of x) more)
-take_first None x f vs more e n = ahead_first vs f more ∙ ap (λ y. ahead None vs (join prepended (answer_of y) more)) (sym e)
-take_first (Some g) x f vs more e n = cc
+  pub ahead_start : (g : Gathered (List W)) (more : Answer (List W)) → g ≡ gathered.All [] → ahead g more ≡ more
+  unfolding ahead
+  ahead_start g (Gives us) is = ap (λ h. ahead h (Gives us)) is
+  ahead_start g (Failed f) is = ap (λ h. ahead h (Failed f)) is
+  ahead_start g Deep is = ap (λ h. ahead h Deep) is
 
-pub take_later : (o : Option Failure) (x : Outcome) (f : Failure) (vs : Values) (more : Behind) → x ≡ outcome.Failed f → is_some o ≡ true → ahead o vs more ≡ ahead o vs (join prepended (answer_of x) more)
-take_later None x f vs more e n = cc
-take_later (Some g) x f vs more e n = ahead_later vs g f more ∙ ap (λ y. ahead (Some g) vs (join prepended (answer_of y) more)) (sym e)
+  ahead_end : (g : Gathered (List W)) → ahead g (Gives []) ≡ answers_of g
+  unfolding ahead
+  ahead_end (gathered.All ws) = ap Gives (append-nil ws)
+  ahead_end (gathered.Failed f) = refl
 
-pub ahead_start : (more : Behind) → ahead None [] more ≡ more
-unfolding ahead
-ahead_start (Gives vs) = refl
-ahead_start (Failed f) = refl
-ahead_start Deep = refl
+  ahead_deep : (g : Gathered (List W)) → ahead g Deep ≡ Deep
+  unfolding ahead
+  ahead_deep (gathered.All ws) = refl
+  ahead_deep (gathered.Failed f) = refl
 
-ahead_all : (o : Option Failure) (vs : Values) (y : Behind) → o ≡ None → ahead o vs (Gives []) ≡ y → y ≡ Gives vs
-unfolding ahead
-ahead_all o vs y e h = sym h ∙ ap (λ q. ahead q vs (Gives [])) e ∙ ap Gives (append-nil vs)
+pub ruleset take_rules = (take_value, take_failure, take_later)
 
-ahead_failed : (o : Option Failure) (vs : Values) (f : Failure) (y : Behind) → o ≡ Some f → ahead o vs (Gives []) ≡ y → y ≡ Failed f
-unfolding ahead
-ahead_failed o vs f y e h = sym h ∙ ap (λ q. ahead q vs (Gives [])) e
+module _ {X W : Type 0} (put : X → Datum FileValue → W) (ev : X → Out FileValue (Datum FileValue)) (xs : List X) where
+  -- all items, and those from a place on
+  abbrev pub whole : Out FileValue (List W)
+  whole = fresh.gathered put ev xs
 
-ahead_deep : (o : Option Failure) (vs : Values) (x y : Behind) → x ≡ Deep → ahead o vs x ≡ y → y ≡ Deep
-unfolding ahead
-ahead_deep None vs x y e h = sym h ∙ ap (ahead None vs) e
-ahead_deep (Some f) vs x y e h = sym h ∙ ap (ahead (Some f) vs) e
+  pub behind : ℕ → Out FileValue (List W)
+  behind i = fresh.gathered put ev (drop i xs)
 
-module _ (ev : Lazy FileValue → Out FileValue (Datum FileValue)) (es : List (Lazy FileValue)) where
-  -- the parts from a place on
-  pub behind : ℕ → Out FileValue Values
-  behind i = parts ev (drop i es)
-
-  pub behind_start : behind 0 ≡ parts ev es
+  pub behind_start : behind 0 ≡ whole
   unfolding behind
   behind_start = refl
 
-  behind_next : (i : ℕ) (e : Lazy FileValue) → i < length es → e ≡ get_or es i e → behind i ≡ both prepended (ev e) (behind (i + 1))
+  behind_next : (i : ℕ) (x : X) → i < length xs → x ≡ get_or xs i x → behind i ≡ both (λ v ws. put x v ∷ ws) (ev x) (behind (i + 1))
   unfolding behind
-  behind_next i e l is = ap (parts ev) (item_first es i e l is)
+  behind_next i x l is = ap (fresh.gathered put ev) (item_first xs i x l is)
 
-  behind_end : (i : ℕ) → length es ≤ i → behind i ≡ parts ev []
+  behind_end : (i : ℕ) → length xs ≤ i → behind i ≡ fresh.gathered put ev []
   unfolding behind
-  behind_end i l = ap (parts ev) (none_left es i l)
+  behind_end i l = ap (fresh.gathered put ev) (none_left xs i l)
 
-  module _ (i : ℕ) (e : Lazy FileValue) (l : i < length es) (is : e ≡ get_or es i e) where
-    pub part_answer : (b c : ℕ) (x : Outcome) → Evaluates answer_of (ev e) b c (Ok x) → (behind i).answer ≡ join prepended (answer_of x) (behind (i + 1)).answer
-    unfolding Evaluates
-    part_answer b c x h = ap (λ (o : Out FileValue Values). o.answer) (behind_next i e l is) ∙ ap (λ y. join prepended y (behind (i + 1)).answer) h.gives
+  -- what has been gathered stands before what is behind, and so does what has been met
+  pub record Stands (i a b : ℕ) (g : Gathered (List W)) : Type 0 where
+    pub answer : ahead g (behind i).answer ≡ whole.answer
+    pub counted : b + count_met (behind i).events ≡ a + count_met whole.events
+    pub fits : b ≤ most_met
 
-    pub part_count : (b c : ℕ) (x : Outcome) → Evaluates answer_of (ev e) b c (Ok x) → b + count_met (behind i).events ≡ c + count_met (behind (i + 1)).events
-    unfolding Evaluates
-    part_count b c x h =
-        omega (arith, h.counted, ap (λ (o : Out FileValue Values). count_met o.events) (behind_next i e l is), count-append (ev e).events (behind (i + 1)).events)
+  pub start : (a : ℕ) (g : Gathered (List W)) → a ≤ most_met → g ≡ gathered.All [] → Stands 0 a a g
+  start a g l is = record {
+    answer = ahead_start g (behind 0).answer is ∙ ap (λ (o : Out FileValue (List W)). o.answer) behind_start;
+    counted = ap (λ (o : Out FileValue (List W)). a + count_met o.events) behind_start;
+    fits = l;
+  }
 
-    pub part_err : (a b c : ℕ) (s : Stop) (o : Option Failure) (vs : Values) → Evaluates answer_of (ev e) b c (Err s) → ahead o vs (behind i).answer ≡ (parts ev es).answer → b + count_met (behind i).events ≡ a + count_met (parts ev es).events → Evaluates answers_of (parts ev es) a c (Err s)
+  module _ (i a b c : ℕ) (x : X) (g : Gathered (List W)) (l : i < length xs) (is : x ≡ get_or xs i x) (s : Stands i a b g) where
+    pub more : (y : Outcome) (h : Gathered (List W)) → Evaluates answer_of (ev x) b c (Ok y) → ((us : Answer (List W)) → ahead h us ≡ ahead g (in_front (put x) (answer_of y) us)) → Stands (i + 1) a c h
+    unfolding Evaluates in_front
+    more y h e took = record {
+      answer =
+          took (behind (i + 1)).answer ∙ ap (λ z. ahead g (join (λ v ws. put x v ∷ ws) z (behind (i + 1)).answer)) (sym e.gives) ∙ ap (λ (o : Out FileValue (List W)). ahead g o.answer) (sym (behind_next i x l is)) ∙ s.answer;
+      counted = omega (arith, e.counted, s.counted, ap (λ (o : Out FileValue (List W)). count_met o.events) (behind_next i x l is), count-append (ev x).events (behind (i + 1)).events);
+      fits = e.fits;
+    }
+
+    pub stopped : (t : Stop) → Evaluates answer_of (ev x) b c (Err t) → Evaluates answers_of whole a c (Err t)
     unfolding Evaluates IsPast
-    part_err a b c TooLarge o vs (inl d) g n =
-        inl (ahead_deep o vs (behind i).answer _ (ap (λ (o : Out FileValue Values). o.answer) (behind_next i e l is) ∙ ap (λ y. join prepended y (behind (i + 1)).answer) d) g)
-    part_err a b c TooLarge o vs (inr k) g n =
-        inr (omega (arith, ap (λ (o : Out FileValue Values). count_met o.events) (behind_next i e l is), count-append (ev e).events (behind (i + 1)).events))
-    part_err a b c OutOfMemory o vs h g n = tt
+    stopped TooLarge (inl d) =
+        inl (sym s.answer ∙ ap (λ (o : Out FileValue (List W)). ahead g o.answer) (behind_next i x l is) ∙ ap (λ z. ahead g (join (λ v ws. put x v ∷ ws) z (behind (i + 1)).answer)) d ∙ ahead_deep g)
+    stopped TooLarge (inr k) =
+        inr (omega (arith, s.counted, ap (λ (o : Out FileValue (List W)). count_met o.events) (behind_next i x l is), count-append (ev x).events (behind (i + 1)).events))
+    stopped OutOfMemory h = tt
 
-  module _ (i a b : ℕ) (o : Option Failure) (vs : Values) (l : length es ≤ i) (g : ahead o vs (behind i).answer ≡ (parts ev es).answer) (n : b + count_met (behind i).events ≡ a + count_met (parts ev es).events) (fits : b ≤ most_met) where
-    at_end : ahead o vs (Gives []) ≡ (parts ev es).answer
-    at_end = ap (λ (p : Out FileValue Values). ahead o vs p.answer) (sym (behind_end i l)) ∙ g
-
-    counted : b ≡ a + count_met (parts ev es).events
-    unfolding count_met
-    counted = let z : count_met (behind i).events ≡ 0 = ap (λ (p : Out FileValue Values). count_met p.events) (behind_end i l) in omega arith
-
-    pub done_all : o ≡ None → Evaluates answers_of (parts ev es) a b (Ok (gathered.All vs))
-    unfolding Evaluates
-    done_all e = record { gives = ahead_all o vs _ e at_end; counted = counted; fits = fits }
-
-    pub done_failed : (f : Failure) → o ≡ Some f → Evaluates answers_of (parts ev es) a b (Ok (gathered.Failed f))
-    unfolding Evaluates
-    done_failed f e = record { gives = ahead_failed o vs f _ e at_end; counted = counted; fits = fits }
+  pub done : (i a b : ℕ) (g : Gathered (List W)) → length xs ≤ i → Stands i a b g → Evaluates answers_of whole a b (Ok g)
+  unfolding Evaluates count_met
+  done i a b g l s =
+      let none : count_met (behind i).events ≡ 0 = ap (λ (o : Out FileValue (List W)). count_met o.events) (behind_end i l) in
+      record {
+        gives = sym s.answer ∙ ap (λ (o : Out FileValue (List W)). ahead g o.answer) (behind_end i l) ∙ ahead_end g;
+        counted = omega (arith, s.counted, none);
+        fits = s.fits;
+      }

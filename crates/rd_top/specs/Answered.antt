@@ -12,59 +12,51 @@ use Rattle.rd_value.specs.Erase.{erase}
 use Rattle.rd_value.specs.declared.value.FileValue.{FileValue}
 use Rattle.rd_value.specs.declared.value.Datum.{Datum}
 use Rattle.rd_value.specs.declared.failure.Outcome.{Outcome}
-use Rattle.rd_top.specs.declared.tree.Module.{Module}
+use Rattle.rd_tree.specs.declared.tree.Module.{Module}
 use Rattle.rd_top.specs.declared.serial.Ending.{Ending}
 use Rattle.rd_top.specs.declared.serial.Ending.TheVariants as ending
-use Rattle.rd_top.specs.Command.{IsRun}
+use Rattle.rd_top.specs.Command.{Argument, IsRun}
 use Rattle.rd_top.specs.Files.{Files}
-use Rattle.rd_top.specs.Source.{IsSource}
-use Rattle.rd_top.specs.Names.{KeepsNames}
-use Rattle.rd_top.specs.Fresh as fresh
-use Rattle.rd_top.specs.Fresh.{Answer, find}
+use Rattle.rd_top.specs.Source.{IsWorkflow, IsRefused}
+use Rattle.rd_top.specs.Tasks.{find_word}
+use Rattle.rd_top.specs.Fresh.{Answer, answer_map}
 use Rattle.rd_top.specs.Fits.{Fits, FreshGives}
 use Rattle.rd_top.specs.Evaluating.{answer_of}
 use Rattle.rd_top.specs.Printed.{root, line_of, status_of}
 use Rattle.rd_top.specs.Shown.{line}
-
--- an answer with something else in place of its value
-abbrev pub answer_map : {A B : Type 0} → (A → B) → Answer A → Answer B
-answer_map k (fresh.Gives a) = fresh.Gives (k a)
-answer_map k (fresh.Failed f) = fresh.Failed f
-answer_map k fresh.Deep = fresh.Deep
 
 -- an answer with the digests of its files in place of their texts
 abbrev pub erased : Answer ModelValue → Answer (Datum FileValue)
 erased = answer_map erase
 
 -- the outcome is fresh evaluation's, as the program holds it
-abbrev pub IsFresh : Module → List ℕ → Outcome → Type 0
-IsFresh m task outcome = (y : Answer ModelValue) × FreshGives file_of m (root task) y × (answer_of outcome ≡ erased y)
+abbrev pub IsFresh : Module → List ℕ → List Argument → Outcome → Type 0
+IsFresh m task arguments outcome = (y : Answer ModelValue) × FreshGives file_of m (root task arguments) y × (answer_of outcome ≡ erased y)
 
 -- A call of a task that the module has: past the limits of an expression, past those of an evaluation, or evaluated.
-abbrev pub OfTask : Module → List ℕ → Ending → Type 0
-OfTask m task ending.WordsRefused = is_within_expr file_of (root task) ≡ false
-OfTask m task ending.TooLarge = Fits file_of m (root task) → ⊥
-OfTask m task (ending.Outcome outcome) = Fits file_of m (root task) × IsFresh m task outcome
-OfTask m task _ = ⊥
+abbrev pub OfTask : Module → List ℕ → List Argument → Ending → Type 0
+OfTask m task arguments ending.WordsRefused = is_within_expr file_of (root task arguments) ≡ false
+OfTask m task arguments ending.TooLarge = Fits file_of m (root task arguments) → ⊥
+OfTask m task arguments (ending.Outcome outcome) = Fits file_of m (root task arguments) × IsFresh m task arguments outcome
+OfTask m task arguments _ = ⊥
 
--- the module has no such task, or it is called
-abbrev pub OfModule : Module → List ℕ → Ending → Type 0
-OfModule m task e = ((find task m.functions ≡ None) × (e ≡ ending.NotFound task)) ⊎ ((find task m.functions ≢ None) × OfTask m task e)
+-- the module has no task that the word names, or it is called
+abbrev pub OfModule : Module → List ℕ → List Argument → Ending → Type 0
+OfModule m word arguments e = ((find_word m word ≡ None) × (e ≡ ending.NotFound word)) ⊎ ((task : List ℕ) × (find_word m word ≡ Some task) × OfTask m task arguments e)
 
--- the text is no source of a module whose names keep the rules, or it is
-abbrev pub OfText : List ℕ → List ℕ → Ending → Type 0
-OfText text task e =
-    (((m : Module) → IsSource text m → KeepsNames m → ⊥) × (e ≡ ending.SourceRefused)) ⊎ ((m : Module) × IsSource text m × KeepsNames m × OfModule m task e)
+-- the text is refused at its line, or it is a workflow
+abbrev pub OfText : List ℕ → List ℕ → List Argument → Ending → Type 0
+OfText text word arguments e = ((line : ℕ) × IsRefused text line × (e ≡ ending.SourceRefused line)) ⊎ ((m : Module) × IsWorkflow text m × OfModule m word arguments e)
 
 -- there is no file, or it has a text
-abbrev pub OfFiles : Files → List ℕ → List ℕ → Ending → Type 0
-OfFiles files file task e = ((get files file ≡ None) × (e ≡ ending.NotFound file)) ⊎ ((text : List ℕ) × (get files file ≡ Some text) × OfText text task e)
+abbrev pub OfFiles : Files → List ℕ → List ℕ → List Argument → Ending → Type 0
+OfFiles files file word arguments e = ((get files file ≡ None) × (e ≡ ending.NotFound file)) ⊎ ((text : List ℕ) × (get files file ≡ Some text) × OfText text word arguments e)
 
 -- the words ask for no run, or for one over the files that the disk tells, where it doesn't fail
 abbrev pub Comes : List (List ℕ) → Option Files → Ending → Type 0
 Comes words told e =
-    (((file task : List ℕ) → IsRun words file task → ⊥) × (e ≡ ending.WordsRefused))
-    ⊎ ((file : List ℕ) × (task : List ℕ) × IsRun words file task × ((e ≡ ending.DiskUnavailable) ⊎ IfSome told (λ files. OfFiles files file task e)))
+    (((file word : List ℕ) (arguments : List Argument) → IsRun words file word arguments → ⊥) × (e ≡ ending.WordsRefused))
+    ⊎ ((file : List ℕ) × (word : List ℕ) × (arguments : List Argument) × IsRun words file word arguments × ((e ≡ ending.DiskUnavailable) ⊎ IfSome told (λ files. OfFiles files file word arguments e)))
 
 -- a status that the command may end with, and its text: what it comes to, or want of memory
 abbrev pub Answers : List (List ℕ) → Option Files → Status → List ℕ → Type 0
@@ -83,6 +75,6 @@ Answered words told ended before behind = (s : Status) × (text : List ℕ) × A
 -- A task that is there, and whose call and evaluation are within the limits, is run where nothing fails, unless memory runs out.
 abbrev pub Completes : List (List ℕ) → Option Files → Type 0 → Type 0 → Status → Type 0
 Completes words told disk_rose output_rose ended =
-    (files : Files) (file task text : List ℕ) (m : Module) → told ≡ Some files → IsRun words file task → get files file ≡ Some text → IsSource text m → KeepsNames m
-    → find task m.functions ≢ None → is_within_expr file_of (root task) ≢ false → Fits file_of m (root task) → (disk_rose → ⊥) → (output_rose → ⊥)
+    (files : Files) (file word text task : List ℕ) (arguments : List Argument) (m : Module) → told ≡ Some files → IsRun words file word arguments → get files file ≡ Some text → IsWorkflow text m
+    → find_word m word ≡ Some task → is_within_expr file_of (root task arguments) ≢ false → Fits file_of m (root task arguments) → (disk_rose → ⊥) → (output_rose → ⊥)
     → (number_of ended ≤ 1) ⊎ (ended ≡ status.OutOfMemory)

@@ -1,26 +1,26 @@
 -- What an evaluator returns that counts the expressions it meets.
-use Rattle.std.specs.Prelude.{◌≡◌, ℕ, ◌+◌, ◌<◌, ◌≤◌, ◌⊎◌, List, ◌++◌, Option, None, Some, Result, Ok, Err}
+use Rattle.std.specs.Prelude.{◌≡◌, ℕ, ◌+◌, ◌<◌, ◌≤◌, ◌⊎◌, List, ◌∷◌, ◌++◌, Result, Ok, Err}
 use Rattle.rd_value.specs.declared.value.FileValue.{FileValue}
 use Rattle.rd_value.specs.declared.value.Datum.{Datum}
-use Rattle.rd_value.specs.declared.expr.Lazy.{Lazy}
-use Rattle.rd_value.specs.declared.failure.Failure.{Failure}
+use Rattle.rd_value.specs.declared.expr.Lazy.{Lazy, out-Lazy}
 use Rattle.rd_value.specs.declared.failure.Outcome.{Outcome}
 use Rattle.rd_value.specs.declared.failure.Outcome.TheVariants as outcome
+use Rattle.rd_tree.specs.declared.tree.Function.{Function}
+use Rattle.rd_tree.specs.declared.tree.Module.{Module}
 use Rattle.rd_top.specs.declared.evaluate.Gathered.{Gathered}
 use Rattle.rd_top.specs.declared.evaluate.Gathered.TheVariants as gathered
 use Rattle.rd_top.specs.declared.evaluate.Stop.{Stop}
 use Rattle.rd_top.specs.declared.evaluate.Stop.TheVariants.{TooLarge, OutOfMemory}
-use Rattle.rd_top.specs.declared.tree.Function.{Function}
-use Rattle.rd_top.specs.declared.tree.Module.{Module}
 use Rattle.rd_top.specs.Running.{own}
-use Rattle.rd_top.specs.Fresh.{Answer, Gives, Failed, Deep, Out, parts, then_, failing, calling, entered, go_on, run}
+use Rattle.rd_top.specs.Fresh as fresh
+use Rattle.rd_top.specs.Fresh.{Answer, Gives, Failed, Deep, Out, Arguments, join, then_, failing, calling, entered, go_on, step, run}
 use Rattle.rd_top.specs.Fits.{most_met, count_met}
 
 abbrev pub answer_of : Outcome → Answer (Datum FileValue)
 answer_of (outcome.Value v) = Gives v
 answer_of (outcome.Failed f) = Failed f
 
-abbrev pub answers_of : Gathered → Answer (List (Datum FileValue))
+abbrev pub answers_of : {A : Type 0} → Gathered A → Answer A
 answers_of (gathered.All vs) = Gives vs
 answers_of (gathered.Failed f) = Failed f
 
@@ -39,29 +39,42 @@ Evaluates view o old new (Ok r) = Within view o old new r
 Evaluates view o old new (Err TooLarge) = IsPast o old
 Evaluates view o old new (Err OutOfMemory) = Unit {0}
 
--- what came before, and then what comes of the parts behind
-unfoldable pub ahead : Option Failure → List (Datum FileValue) → Answer (List (Datum FileValue)) → Answer (List (Datum FileValue))
-ahead None vs (Gives ws) = Gives (vs ++ ws)
-ahead None vs (Failed g) = Failed g
-ahead None vs Deep = Deep
-ahead (Some f) vs (Gives ws) = Failed f
-ahead (Some f) vs (Failed g) = Failed f
-ahead (Some f) vs Deep = Deep
+-- what was gathered, and then what comes of the items behind
+unfoldable pub ahead : {W : Type 0} → Gathered (List W) → Answer (List W) → Answer (List W)
+ahead g more = join ◌++◌ (answers_of g) more
+
+-- what comes of an item with this answer, and then of the items behind
+unfoldable pub in_front : {V W : Type 0} → (V → W) → Answer V → Answer (List W) → Answer (List W)
+in_front put a more = join (λ v ws. put v ∷ ws) a more
+
+-- what comes of the values of evaluated parts
+unfoldable pub after : {A : Type 0} → Out FileValue A → (A → Out FileValue (Datum FileValue)) → Out FileValue (Datum FileValue)
+after o go = then_ o go failing
 
 module _ (m : Module) (depth : ℕ) where
-  -- what an expression gives at the depth
+  -- what an expression gives at the depth, and at the next one
   unfoldable pub at_depth : Lazy FileValue → Out FileValue (Datum FileValue)
   at_depth = run own m depth
 
-  -- a call of expressions, of values, a bound call, and an expression that is met
-  unfoldable pub call_out : List ℕ → List (Lazy FileValue) → Out FileValue (Datum FileValue)
-  call_out task positional = then_ (parts at_depth positional) (calling own m at_depth task) failing
+  unfoldable pub step_out : Lazy FileValue → Out FileValue (Datum FileValue)
+  step_out e = step own (calling own m at_depth) at_depth (out-Lazy FileValue e)
 
-  unfoldable pub values_out : List ℕ → List (Datum FileValue) → Out FileValue (Datum FileValue)
-  values_out task values = calling own m at_depth task values
+  -- what is evaluated of a call, of a list and of a dict
+  unfoldable pub arguments_out : List (Lazy FileValue) → List (List ℕ × Lazy FileValue) → Out FileValue (Arguments FileValue)
+  arguments_out es ks = fresh.arguments at_depth es ks
 
-  unfoldable pub body_out : Function → List (Datum FileValue) → Out FileValue (Datum FileValue)
-  body_out f args = entered own at_depth f (Ok args)
+  unfoldable pub parts_out : List (Lazy FileValue) → Out FileValue (List (Datum FileValue))
+  parts_out es = fresh.parts at_depth es
+
+  unfoldable pub seconds_out : {K : Type 0} → List (K × Lazy FileValue) → Out FileValue (List (K × Datum FileValue))
+  seconds_out ps = fresh.seconds at_depth ps
+
+  -- a call of values, a bound call, and an expression that is met
+  unfoldable pub values_out : List ℕ → Arguments FileValue → Out FileValue (Datum FileValue)
+  values_out task args = calling own m at_depth task args
+
+  unfoldable pub body_out : List ℕ → Function → List (Datum FileValue) → Out FileValue (Datum FileValue)
+  body_out task f args = entered own m at_depth task f (Ok args)
 
   unfoldable pub met_out : Lazy FileValue → Out FileValue (Datum FileValue)
   met_out e = go_on at_depth e

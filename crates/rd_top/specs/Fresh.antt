@@ -1,19 +1,20 @@
 -- Fresh evaluation, by recursion on the depth: nothing is remembered, nothing is recorded, and all that happens is told.
-use Rattle.std.specs.Prelude.{ℕ, zero, suc, List, [], ◌∷◌, ◌++◌, map, if◌then◌else◌, Option, None, Some, Result, Ok, Err}
-use Rattle.std.specs.Str.{bytes_eq}
+use Rattle.std.specs.Prelude.{ℕ, zero, suc, List, [], ◌∷◌, ◌++◌, map, Option, None, Some, Result, Ok, Err}
 use Rattle.rd_value.specs.declared.class.Class.TheVariants.{NameError}
 use Rattle.rd_value.specs.declared.value.ErrorValue.{ErrorValue}
 use Rattle.rd_value.specs.declared.value.FileValue.{FileValue}
 use Rattle.rd_value.specs.declared.value.Datum.{Datum}
+use Rattle.rd_value.specs.declared.value.Datum.TheVariants as value
 use Rattle.rd_value.specs.declared.expr.Lazy.{Lazy, out-Lazy}
 use Rattle.rd_value.specs.declared.expr.Lazy.TheOpen.{Lazy-F}
 use Rattle.rd_value.specs.declared.failure.Failure.{Failure}
-use Rattle.rd_top.specs.declared.tree.Function.{Function}
-use Rattle.rd_top.specs.declared.tree.Module.{Module}
-use Rattle.rd_top.specs.Errors.{in_task}
+use Rattle.rd_value.specs.Bind.{bind}
+use Rattle.rd_value.specs.Operators.{kept}
 use Rattle.rd_value.specs.Raise.{raised}
-use Rattle.rd_top.specs.Bind.{bind}
-use Rattle.rd_top.specs.Body.{Reduction, Reduces, Fails, body}
+use Rattle.rd_meaning.specs.Step.{failure_in}
+use Rattle.rd_tree.specs.declared.tree.Function.{Function}
+use Rattle.rd_tree.specs.declared.tree.Module.{Module}
+use Rattle.rd_program.specs.Program.{find_task, signature_of, body}
 
 -- a task with its bound arguments
 pub record Visit (F : Type 0) : Type 0 where
@@ -25,8 +26,6 @@ pub data What (F : Type 0) : Type 0 where
   Bound : Visit F → What F
   -- a call of this task couldn't be bound
   Unbound : List ℕ → What F
-  -- a text was written at a path
-  Wrote : List ℕ → List ℕ → What F
   -- an expression was met, with all expressions in it
   Met : Lazy F → What F
 
@@ -45,6 +44,12 @@ pub data Answer (A : Type 0) : Type 0 where
 pub record Out (F A : Type 0) : Type 0 where
   pub answer : Answer A
   pub events : List (Event F)
+
+-- an answer with something else in place of its value
+abbrev pub answer_map : {A B : Type 0} → (A → B) → Answer A → Answer B
+answer_map k (Gives a) = Gives (k a)
+answer_map k (Failed f) = Failed f
+answer_map k Deep = Deep
 
 abbrev pub plain : {F A : Type 0} → Answer A → Out F A
 plain a = record { answer = a; events = [] }
@@ -92,53 +97,91 @@ under c e = record { what = e.what; parent = nearest c e.parent }
 abbrev pub inside : {F A : Type 0} → Visit F → Out F A → Out F A
 inside c o = record { answer = o.answer; events = map (under c) o.events }
 
-abbrev pub wrote : {F : Type 0} → List (List ℕ × List ℕ) → List (Event F)
-wrote [] = []
-wrote (w ∷ ws) = event (Wrote w.0 w.1) ∷ wrote ws
+-- ---- parts
 
--- the task of this name
-abbrev pub find : List ℕ → List Function → Option Function
-find name [] = None
-find name (f ∷ fs) = if bytes_eq name f.name then Some f else find name fs
+-- What all items come to, also behind one that fails. `put` makes the result of an item of its value.
+abbrev pub gathered : {F X V W : Type 0} → (X → V → W) → (X → Out F V) → List X → Out F (List W)
+gathered put ev [] = plain (Gives [])
+gathered put ev (x ∷ xs) = both (λ v ws. put x v ∷ ws) (ev x) (gathered put ev xs)
 
-abbrev pub prepended : {A : Type 0} → A → List A → List A
-prepended a as' = a ∷ as'
+abbrev pub alone : {X V : Type 0} → X → V → V
+alone x v = v
 
--- all parts, also behind one that fails
+-- all parts
 abbrev pub parts : {F : Type 0} → (Lazy F → Out F (Datum F)) → List (Lazy F) → Out F (List (Datum F))
-parts ev [] = plain (Gives [])
-parts ev (e ∷ es) = both prepended (ev e) (parts ev es)
+parts ev es = gathered alone ev es
+
+abbrev pub beside : {K E V : Type 0} → K × E → V → K × V
+beside p v = (p.0, v)
+
+abbrev pub second : {F K : Type 0} → (Lazy F → Out F (Datum F)) → K × Lazy F → Out F (Datum F)
+second ev p = ev p.1
+
+-- the second parts of pairs, each beside its first
+abbrev pub seconds : {F K : Type 0} → (Lazy F → Out F (Datum F)) → List (K × Lazy F) → Out F (List (K × Datum F))
+seconds ev ps = gathered beside (second ev) ps
+
+-- arguments by position, and by keyword
+abbrev pub Arguments : Type 0 → Type 0
+Arguments F = List (Datum F) × List (List ℕ × Datum F)
+
+abbrev pub paired : {A B : Type 0} → A → B → A × B
+paired a b = (a, b)
+
+-- all positional arguments, then all keywords'
+abbrev pub arguments : {F : Type 0} → (Lazy F → Out F (Datum F)) → List (Lazy F) → List (List ℕ × Lazy F) → Out F (Arguments F)
+arguments ev es ks = both paired (parts ev es) (seconds ev ks)
+
+-- ---- calls
 
 -- an expression that a body gave is met, and then evaluated
 abbrev pub go_on : {F : Type 0} → (Lazy F → Out F (Datum F)) → Lazy F → Out F (Datum F)
 go_on ev e = before (event (Met e) ∷ []) (ev e)
 
-abbrev pub on_reduction : {F : Type 0} → (Lazy F → Out F (Datum F)) → Reduction F → Out F (Datum F)
-on_reduction ev (Reduces e ws) = before (wrote ws) (go_on ev e)
-on_reduction ev (Fails f) = failing f
+-- what the body of a task came to
+abbrev pub on_body : {F : Type 0} → (Lazy F → Out F (Datum F)) → List ℕ → Result (Lazy F) ErrorValue → Out F (Datum F)
+on_body ev task (Ok e) = go_on ev e
+on_body ev task (Err e) = failing (failure_in task e)
+
+abbrev pub visit : {F : Type 0} → List ℕ → List (Datum F) → Visit F
+visit task args = record { task = task; args = args }
+
+module _ {F : Type 0} (file : F → FileValue) (m : Module) where
+  -- a call whose arguments were bound or not
+  abbrev pub entered : (Lazy F → Out F (Datum F)) → List ℕ → Function → Result (List (Datum F)) ErrorValue → Out F (Datum F)
+  entered ev task f (Ok args) = before (event (Bound (visit task args)) ∷ []) (inside (visit task args) (on_body ev task (body file m f args)))
+  entered ev task f (Err e) = before (event (Unbound task) ∷ []) (failing (failure_in task e))
+
+  -- a call of the task that was found
+  abbrev pub call : (Lazy F → Out F (Datum F)) → List ℕ → Option Function → Arguments F → Out F (Datum F)
+  call ev task None args = before (event (Unbound task) ∷ []) (failing (failure_in [] (raised NameError task)))
+  call ev task (Some f) args = entered ev task f (bind file (signature_of f) args.0 args.1)
+
+  -- a call of the task of a full name
+  abbrev pub calling : (Lazy F → Out F (Datum F)) → List ℕ → Arguments F → Out F (Datum F)
+  calling ev task args = call ev task (find_task m task) args
+
+-- ---- evaluation
+
+-- what was made of evaluated parts
+abbrev pub made : {F : Type 0} → Result (Datum F) ErrorValue → Out F (Datum F)
+made (Ok v) = plain (Gives v)
+made (Err e) = failing (failure_in [] e)
 
 module _ {F : Type 0} (file : F → FileValue) where
-  abbrev pub visit : List ℕ → List (Datum F) → Visit F
-  visit task args = record { task = task; args = args }
+  abbrev pub listed : List (Datum F) → Out F (Datum F)
+  listed vs = made (kept file (value.List vs))
 
-  -- a call whose arguments were bound or not
-  abbrev pub entered : (Lazy F → Out F (Datum F)) → Function → Result (List (Datum F)) ErrorValue → Out F (Datum F)
-  entered ev f (Ok args) = before (event (Bound (visit f.name args)) ∷ []) (inside (visit f.name args) (on_reduction ev (body file f args)))
-  entered ev f (Err e) = before (event (Unbound f.name) ∷ []) (failing (in_task f.name e))
+  abbrev pub keyed : List (Datum F × Datum F) → Out F (Datum F)
+  keyed ps = made (kept file (value.Dict ps))
 
-  -- a call of a task with these arguments
-  abbrev pub call : (Lazy F → Out F (Datum F)) → Option Function → List ℕ → List (Datum F) → Out F (Datum F)
-  call ev None task vs = before (event (Unbound task) ∷ []) (failing (in_task [] (raised NameError task)))
-  call ev (Some f) task vs = entered ev f (bind file f.parameters vs)
-
-  abbrev pub calling : Module → (Lazy F → Out F (Datum F)) → List ℕ → List (Datum F) → Out F (Datum F)
-  calling m ev task vs = call ev (find task m.functions) task vs
-
--- One step: what an expression gives where its parts are evaluated by `ev` and calls of values by `calls`. No body gives another kind of expression yet.
-abbrev pub step : {F : Type 0} → (List ℕ → List (Datum F) → Out F (Datum F)) → (Lazy F → Out F (Datum F)) → Lazy-F F (Lazy F) → Out F (Datum F)
-step calls ev (Lazy-F.Val v) = plain (Gives v)
-step calls ev (Lazy-F.Call task positional []) = then_ (parts ev positional) (calls task) failing
-step calls ev _ = plain Deep
+  -- One step: what an expression gives where its parts are evaluated by `ev` and calls of values by `calls`. No body makes another kind of expression yet.
+  abbrev pub step : (List ℕ → Arguments F → Out F (Datum F)) → (Lazy F → Out F (Datum F)) → Lazy-F F (Lazy F) → Out F (Datum F)
+  step calls ev (Lazy-F.Val v) = plain (Gives v)
+  step calls ev (Lazy-F.Call task positional keywords) = then_ (arguments ev positional keywords) (calls task) failing
+  step calls ev (Lazy-F.ListOf es) = then_ (parts ev es) listed failing
+  step calls ev (Lazy-F.DictOf ps) = then_ (seconds ev ps) keyed failing
+  step calls ev _ = plain Deep
 
 abbrev pub at_zero : {F : Type 0} → Lazy-F F (Lazy F) → Out F (Datum F)
 at_zero (Lazy-F.Val v) = plain (Gives v)
@@ -147,7 +190,7 @@ at_zero _ = plain Deep
 module _ {F : Type 0} (file : F → FileValue) (m : Module) where
   unfoldable pub run : ℕ → Lazy F → Out F (Datum F)
   run zero e = at_zero (out-Lazy F e)
-  run (suc n) e = step (calling file m (run n)) (run n) (out-Lazy F e)
+  run (suc n) e = step file (calling file m (run n)) (run n) (out-Lazy F e)
 
   -- the answer at a depth
   unfoldable pub fresh : ℕ → Lazy F → Answer (Datum F)

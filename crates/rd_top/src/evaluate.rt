@@ -1,30 +1,32 @@
 //! Fresh evaluation by plain recursion, within its limits.
 
 ghost use Rattle.std.specs.Prelude.{◌≡◌, ◌≢◌, ◌≤◌, ℕ, List, [], IfOk, OnOk, Err};
-ghost use Rattle.std.specs.Option.{option_copied};
-ghost use Rattle.rd_top.specs.Body.{body};
-ghost use Rattle.rd_top.specs.Errors as errors;
-ghost use Rattle.rd_value.specs.Raise as raise;
-ghost use Rattle.rd_top.specs.Fits as fits;
-ghost use Rattle.rd_top.specs.Fresh as fresh;
-ghost use Rattle.rd_top.specs.Evaluating.{Evaluates, answer_of, answers_of, ahead, at_depth, call_out, values_out, body_out, met_out};
 ghost use Rattle.rd_value.specs.declared.class.Class.TheVariants as class;
 ghost use Rattle.rd_value.specs.declared.value.FileValue.{FileValue};
 ghost use Rattle.rd_value.specs.declared.value.Datum.{Datum};
 ghost use Rattle.rd_value.specs.Model.{ModelExpr, file_of};
-ghost use Rattle.rd_top.specs.declared.tree.Module.{Module};
+ghost use Rattle.rd_value.specs.Operators.{kept};
+ghost use Rattle.rd_value.specs.Raise as raise;
+ghost use Rattle.rd_meaning.specs.Step.{failure_in};
+ghost use Rattle.rd_tree.specs.declared.tree.Function.{Function};
+ghost use Rattle.rd_tree.specs.declared.tree.Module.{Module};
+ghost use Rattle.rd_top.specs.Fits as fits;
+ghost use Rattle.rd_top.specs.Fresh as fresh;
+ghost use Rattle.rd_top.specs.Evaluating.{Evaluates, answer_of, answers_of, ahead, in_front, after, at_depth, step_out, arguments_out, parts_out, seconds_out, values_out, body_out, met_out};
+ghost use Rattle.rd_program.specs.Program.{Prepares, IsTaskOf};
 ghost use Rattle.rd_top.specs.Running.{own};
 
-use crate::bind::bind;
-use crate::body::{Reduction, run_body};
 use crate::lazies::lazies;
-use crate::tree::{Function, Module};
 use rd_base::{Copies, Items, OutOfMemory, Text};
+use rd_meaning::{NamedValues, StepError, bind};
+use rd_program::{Program, Task, prepare};
+use rd_tree::Module;
 use rd_value::class::Class;
 use rd_value::expr::Expr;
 use rd_value::failure::{Failure, Outcome};
+use rd_value::limits::kept;
 use rd_value::raise::raised;
-use rd_value::value::{ErrorValue, Value, Values};
+use rd_value::value::{ErrorValue, Pairs, Value, Values};
 use std::alloc::Global;
 
 /// The most nested expressions.
@@ -51,15 +53,18 @@ impl From<OutOfMemory> for Stop {
     }
 }
 
-/// The values of all parts, or the failure of the leftmost part that failed.
+/// What was gathered of all parts, or the failure of the leftmost part that failed.
 #[derive(Drop)]
-pub enum Gathered {
-    All(Values),
+pub enum Gathered<T> {
+    All(T),
     Failed(Failure),
 }
 
+/// Arguments by position, and by keyword.
+type Arguments = (Values, NamedValues);
+
 fn in_task(alloc: Global, task: &Text, error: ErrorValue) -> Result<Failure, OutOfMemory>
-    ensures { IfOk result (λ f. f ≡ errors.in_task task.now error) }
+    ensures { IfOk result (λ f. f ≡ failure_in task.now error) }
 {
     Ok(Failure {
         class: error.class,
@@ -68,47 +73,82 @@ fn in_task(alloc: Global, task: &Text, error: ErrorValue) -> Result<Failure, Out
     })
 }
 
-fn no_task(alloc: Global, task: &Text) -> Result<Failure, OutOfMemory>
-    ensures { IfOk result (λ f. f ≡ errors.in_task [] (raise.raised class.NameError task.now)) }
+fn in_no_task(alloc: Global, error: ErrorValue) -> Result<Failure, OutOfMemory>
+    ensures { IfOk result (λ f. f ≡ failure_in [] error) }
 {
     let origin = Text::from_str(alloc, "")?;
-    in_task(
-        alloc,
-        &origin,
-        raised(alloc, Class::NameError, task.as_str())?,
-    )
+    in_task(alloc, &origin, error)
 }
 
-/// The task of a name.
-pub fn find<'m>(functions: &'m [Function], name: &Text) -> Option<&'m Function>
-    ensures { option_copied result ≡ fresh.find name.now functions.now }
+fn no_task(alloc: Global, task: &Text) -> Result<Failure, OutOfMemory>
+    ensures { IfOk result (λ f. f ≡ failure_in [] (raise.raised class.NameError task.now)) }
 {
-    for function in functions {
-        if *name == function.name {
-            return Some(function);
-        }
+    in_no_task(alloc, raised(alloc, Class::NameError, task.as_str())?)
+}
+
+/// What is made of evaluated parts, within the limits.
+fn made(alloc: Global, value: Value) -> Result<Outcome, OutOfMemory>
+    ensures { IfOk result (λ outcome. answer_of outcome ≡ (fresh.made (kept own value)).answer) }
+{
+    match kept(alloc, value)? {
+        Ok(value) => Ok(Outcome::Value(value)),
+        Err(error) => Ok(Outcome::Failed(in_no_task(alloc, error)?)),
     }
-    None
 }
 
-/// Takes a part's outcome: a value at the end, or the first failure.
-#[tactic(auto, using(crate::proofs::Parts::take_gives, crate::proofs::Parts::take_first, crate::proofs::Parts::take_later))]
-fn take(
+/// What was gathered before a part, and what the part came to.
+#[tactic(auto, using(crate::proofs::Parts::take_rules))]
+fn with_value(
     alloc: Global,
-    values: &mut Values,
-    failed: &mut Option<Failure>,
+    gathered: Gathered<Values>,
     outcome: Outcome,
-) -> Result<(), OutOfMemory>
-    ensures { OnOk result ((more : fresh.Answer (List (Datum FileValue))) → ahead failed.new values.new more ≡ ahead failed.old values.old (fresh.join fresh.prepended (answer_of outcome) more)) }
+) -> Result<Gathered<Values>, OutOfMemory>
+    ensures { IfOk result (λ g. (more : fresh.Answer (List (Datum FileValue))) → ahead g more ≡ ahead gathered (in_front (λ v. v) (answer_of outcome) more)) }
 {
-    match outcome {
-        Outcome::Value(value) => values.push(alloc, value),
-        Outcome::Failed(failure) => {
-            if failed.is_none() {
-                *failed = Some(failure);
+    match gathered {
+        Gathered::All(mut values) => match outcome {
+            Outcome::Value(value) => {
+                values.push(alloc, value)?;
+                Ok(Gathered::All(values))
             }
-            Ok(())
-        }
+            Outcome::Failed(failure) => Ok(Gathered::Failed(failure)),
+        },
+        Gathered::Failed(first) => Ok(Gathered::Failed(first)),
+    }
+}
+
+/// What was gathered before a pair, and the pair with what its second part came to.
+#[tactic(auto, using(crate::proofs::Parts::take_rules))]
+fn with_pair<K: Copies>(
+    alloc: Global,
+    gathered: Gathered<Items<(K, Value)>>,
+    key: &K,
+    outcome: Outcome,
+) -> Result<Gathered<Items<(K, Value)>>, OutOfMemory>
+    ensures { IfOk result (λ g. (more : fresh.Answer (List (K × Datum FileValue))) → ahead g more ≡ ahead gathered (in_front (λ v. (key.now, v)) (answer_of outcome) more)) }
+{
+    match gathered {
+        Gathered::All(mut pairs) => match outcome {
+            Outcome::Value(value) => {
+                pairs.push(alloc, (key.copy(alloc)?, value))?;
+                Ok(Gathered::All(pairs))
+            }
+            Outcome::Failed(failure) => Ok(Gathered::Failed(failure)),
+        },
+        Gathered::Failed(first) => Ok(Gathered::Failed(first)),
+    }
+}
+
+/// Both kinds of arguments, or the failure of the leftmost that failed.
+fn paired(values: Gathered<Values>, named: Gathered<NamedValues>) -> Gathered<Arguments>
+    ensures { answers_of result ≡ fresh.join fresh.paired (answers_of values) (answers_of named) }
+{
+    match values {
+        Gathered::All(values) => match named {
+            Gathered::All(named) => Gathered::All((values, named)),
+            Gathered::Failed(failure) => Gathered::Failed(failure),
+        },
+        Gathered::Failed(first) => Gathered::Failed(first),
     }
 }
 
@@ -117,6 +157,7 @@ fn take(
 pub struct Evaluation<'m> {
     alloc: Global,
     tasks: &'m Module,
+    program: &'m Program,
 }
 
 impl<'m> Evaluation<'m> {
@@ -124,8 +165,35 @@ impl<'m> Evaluation<'m> {
     #[cycle(evaluate)]
     #[tactic(auto, using(crate::proofs::Evaluated::expression_rules))]
     fn expression(&self, depth: u32, expr: &Expr, met: &mut u32) -> Result<Outcome, Stop>
-        requires { met.old ≤ fits.most_met }
+        requires prepared { Prepares self.now.tasks.now self.now.program.now }
+        requires few { met.old ≤ fits.most_met }
         ensures gives { Evaluates answer_of (at_depth self.now.tasks.now depth expr.now) met.old met.new result }
+        ensures room { met.new ≤ fits.most_met }
+    {
+        if depth == 0 {
+            return self.at_zero(expr);
+        }
+        self.step(depth - 1, expr, met)
+    }
+
+    /// What an expression gives at no depth.
+    #[tactic(auto, using(crate::proofs::Evaluated::zero_rules))]
+    fn at_zero(&self, expr: &Expr) -> Result<Outcome, Stop>
+        ensures { (met : ℕ) → met ≤ fits.most_met → Evaluates answer_of (at_depth self.now.tasks.now 0 expr.now) met met result }
+    {
+        match expr {
+            Expr::Val(value) => Ok(Outcome::Value(value.copy(self.alloc)?)),
+            _ => Err(Stop::TooLarge),
+        }
+    }
+
+    /// What an expression gives whose parts are evaluated at the depth.
+    #[cycle(evaluate)]
+    #[tactic(auto, using(crate::proofs::Evaluated::step_rules))]
+    fn step(&self, depth: u32, expr: &Expr, met: &mut u32) -> Result<Outcome, Stop>
+        requires prepared { Prepares self.now.tasks.now self.now.program.now }
+        requires few { met.old ≤ fits.most_met }
+        ensures gives { Evaluates answer_of (step_out self.now.tasks.now depth expr.now) met.old met.new result }
         ensures room { met.new ≤ fits.most_met }
     {
         match expr {
@@ -134,32 +202,63 @@ impl<'m> Evaluation<'m> {
                 task,
                 positional,
                 keywords,
-            } => {
-                if depth == 0 || keywords.len() != 0 {
-                    return Err(Stop::TooLarge);
-                }
-                self.call(depth - 1, task, positional.as_slice(), met)
-            }
+            } => self.call(depth, task, positional.as_slice(), keywords.as_slice(), met),
+            Expr::ListOf(parts) => self.list(depth, parts.as_slice(), met),
+            Expr::DictOf(pairs) => self.dict(depth, pairs.as_slice(), met),
             _ => Err(Stop::TooLarge),
         }
     }
 
     /// A call, whose arguments are evaluated at the depth.
     #[cycle(evaluate)]
-    #[tactic(auto, using(crate::proofs::Evaluated::call_rules))]
+    #[tactic(auto, using(crate::proofs::Evaluated::after_rules))]
     fn call(
         &self,
         depth: u32,
         task: &Text,
         positional: &[Expr],
+        keywords: &[(Text, Expr)],
         met: &mut u32,
     ) -> Result<Outcome, Stop>
-        requires { met.old ≤ fits.most_met }
-        ensures gives { Evaluates answer_of (call_out self.now.tasks.now depth task.now positional.now) met.old met.new result }
+        requires prepared { Prepares self.now.tasks.now self.now.program.now }
+        requires few { met.old ≤ fits.most_met }
+        ensures gives { Evaluates answer_of (after (arguments_out self.now.tasks.now depth positional.now keywords.now) (values_out self.now.tasks.now depth task.now)) met.old met.new result }
         ensures room { met.new ≤ fits.most_met }
     {
-        match self.parts(depth, positional, met) {
-            Ok(Gathered::All(values)) => self.enter(depth, task, values, met),
+        match self.arguments(depth, positional, keywords, met) {
+            Ok(Gathered::All(arguments)) => self.enter(depth, task, &arguments, met),
+            Ok(Gathered::Failed(failure)) => Ok(Outcome::Failed(failure)),
+            Err(stop) => Err(stop),
+        }
+    }
+
+    /// The list of parts that are evaluated at the depth.
+    #[cycle(evaluate)]
+    #[tactic(auto, using(crate::proofs::Evaluated::after_rules))]
+    fn list(&self, depth: u32, parts: &[Expr], met: &mut u32) -> Result<Outcome, Stop>
+        requires prepared { Prepares self.now.tasks.now self.now.program.now }
+        requires few { met.old ≤ fits.most_met }
+        ensures gives { Evaluates answer_of (after (parts_out self.now.tasks.now depth parts.now) (fresh.listed own)) met.old met.new result }
+        ensures room { met.new ≤ fits.most_met }
+    {
+        match self.parts(depth, parts, met) {
+            Ok(Gathered::All(values)) => Ok(made(self.alloc, Value::List(values))?),
+            Ok(Gathered::Failed(failure)) => Ok(Outcome::Failed(failure)),
+            Err(stop) => Err(stop),
+        }
+    }
+
+    /// The dict of parts that are evaluated at the depth.
+    #[cycle(evaluate)]
+    #[tactic(auto, using(crate::proofs::Evaluated::after_rules))]
+    fn dict(&self, depth: u32, pairs: &[(Value, Expr)], met: &mut u32) -> Result<Outcome, Stop>
+        requires prepared { Prepares self.now.tasks.now self.now.program.now }
+        requires few { met.old ≤ fits.most_met }
+        ensures gives { Evaluates answer_of (after (seconds_out self.now.tasks.now depth pairs.now) (fresh.keyed own)) met.old met.new result }
+        ensures room { met.new ≤ fits.most_met }
+    {
+        match self.pairs(depth, pairs, met) {
+            Ok(Gathered::All(pairs)) => Ok(made(self.alloc, Value::Dict(pairs))?),
             Ok(Gathered::Failed(failure)) => Ok(Outcome::Failed(failure)),
             Err(stop) => Err(stop),
         }
@@ -168,17 +267,31 @@ impl<'m> Evaluation<'m> {
     /// A call of values.
     #[cycle(evaluate)]
     #[tactic(auto, using(crate::proofs::Evaluated::enter_rules))]
-    fn enter(&self, depth: u32, task: &Text, values: Values, met: &mut u32) -> Result<Outcome, Stop>
-        requires { met.old ≤ fits.most_met }
-        ensures gives { Evaluates answer_of (values_out self.now.tasks.now depth task.now values) met.old met.new result }
+    fn enter(
+        &self,
+        depth: u32,
+        task: &Text,
+        arguments: &Arguments,
+        met: &mut u32,
+    ) -> Result<Outcome, Stop>
+        requires prepared { Prepares self.now.tasks.now self.now.program.now }
+        requires few { met.old ≤ fits.most_met }
+        ensures gives { Evaluates answer_of (values_out self.now.tasks.now depth task.now arguments.now) met.old met.new result }
         ensures room { met.new ≤ fits.most_met }
     {
-        match find(self.tasks.functions.as_slice(), task) {
+        match self.program.find(task) {
             None => Ok(Outcome::Failed(no_task(self.alloc, task)?)),
-            Some(function) => {
-                match bind(self.alloc, function.parameters.as_slice(), values)? {
-                    Ok(arguments) => self.body(depth, function, &arguments, met),
-                    Err(error) => Ok(Outcome::Failed(in_task(self.alloc, &function.name, error)?)),
+            Some(found) => {
+                match bind(
+                    self.alloc,
+                    task.as_str(),
+                    &found.signature,
+                    &arguments.0,
+                    &arguments.1,
+                ) {
+                    Ok(values) => self.body(depth, task, found, &values, met),
+                    Err(StepError::Failed(failure)) => Ok(Outcome::Failed(failure)),
+                    Err(StepError::OutOfMemory) => Err(Stop::OutOfMemory),
                 }
             }
         }
@@ -190,17 +303,19 @@ impl<'m> Evaluation<'m> {
     fn body(
         &self,
         depth: u32,
-        function: &Function,
+        task: &Text,
+        found: &Task,
         arguments: &Values,
         met: &mut u32,
     ) -> Result<Outcome, Stop>
-        requires { met.old ≤ fits.most_met }
-        ensures gives { Evaluates answer_of (body_out self.now.tasks.now depth function.now arguments.now) met.old met.new result }
+        requires prepared { Prepares self.now.tasks.now self.now.program.now }
+        requires few { met.old ≤ fits.most_met }
+        ensures gives { (f : Function) → IsTaskOf self.now.tasks.now f found.now → Evaluates answer_of (body_out self.now.tasks.now depth task.now f arguments.now) met.old met.new result }
         ensures room { met.new ≤ fits.most_met }
     {
-        match run_body(self.alloc, function, arguments.as_slice())? {
-            Reduction::Expr(expr) => self.go_on(depth, &expr, met),
-            Reduction::Failed(failure) => Ok(Outcome::Failed(failure)),
+        match self.program.run(self.alloc, found, arguments.as_slice())? {
+            Ok(expr) => self.go_on(depth, &expr, met),
+            Err(error) => Ok(Outcome::Failed(in_task(self.alloc, task, error)?)),
         }
     }
 
@@ -208,7 +323,8 @@ impl<'m> Evaluation<'m> {
     #[cycle(evaluate)]
     #[tactic(auto, using(crate::proofs::Evaluated::met_rules))]
     fn go_on(&self, depth: u32, expr: &Expr, met: &mut u32) -> Result<Outcome, Stop>
-        requires { met.old ≤ fits.most_met }
+        requires prepared { Prepares self.now.tasks.now self.now.program.now }
+        requires few { met.old ≤ fits.most_met }
         ensures gives { Evaluates answer_of (met_out self.now.tasks.now depth expr.now) met.old met.new result }
         ensures room { met.new ≤ fits.most_met }
     {
@@ -220,25 +336,92 @@ impl<'m> Evaluation<'m> {
         self.expression(depth, expr, met)
     }
 
-    /// All parts from the left, also behind one that fails.
+    /// All arguments, those by position first.
     #[cycle(evaluate)]
-    fn parts(&self, depth: u32, parts: &[Expr], met: &mut u32) -> Result<Gathered, Stop>
-        requires { met.old ≤ fits.most_met }
-        ensures gives { Evaluates answers_of (fresh.parts (at_depth self.now.tasks.now depth) parts.now) met.old met.new result }
+    #[tactic(auto, using(crate::proofs::Evaluated::both_rules))]
+    fn arguments(
+        &self,
+        depth: u32,
+        positional: &[Expr],
+        keywords: &[(Text, Expr)],
+        met: &mut u32,
+    ) -> Result<Gathered<Arguments>, Stop>
+        requires prepared { Prepares self.now.tasks.now self.now.program.now }
+        requires few { met.old ≤ fits.most_met }
+        ensures gives { Evaluates answers_of (arguments_out self.now.tasks.now depth positional.now keywords.now) met.old met.new result }
         ensures room { met.new ≤ fits.most_met }
     {
-        let mut values = Items::new(self.alloc);
-        let mut failed = None;
+        match self.parts(depth, positional, met) {
+            Ok(values) => match self.keywords(depth, keywords, met) {
+                Ok(named) => Ok(paired(values, named)),
+                Err(stop) => Err(stop),
+            },
+            Err(stop) => Err(stop),
+        }
+    }
+
+    /// All parts from the left, also behind one that fails.
+    #[cycle(evaluate)]
+    fn parts(&self, depth: u32, parts: &[Expr], met: &mut u32) -> Result<Gathered<Values>, Stop>
+        requires prepared { Prepares self.now.tasks.now self.now.program.now }
+        requires few { met.old ≤ fits.most_met }
+        ensures gives { Evaluates answers_of (parts_out self.now.tasks.now depth parts.now) met.old met.new result }
+        ensures room { met.new ≤ fits.most_met }
+    {
+        let mut gathered = Gathered::All(Items::new(self.alloc));
         for part in parts {
             match self.expression(depth, part, met) {
-                Ok(outcome) => take(self.alloc, &mut values, &mut failed, outcome)?,
+                Ok(outcome) => gathered = with_value(self.alloc, gathered, outcome)?,
                 Err(stop) => return Err(stop),
             }
         }
-        match failed {
-            None => Ok(Gathered::All(values)),
-            Some(failure) => Ok(Gathered::Failed(failure)),
+        Ok(gathered)
+    }
+
+    /// All keywords' parts from the left, also behind one that fails.
+    #[cycle(evaluate)]
+    fn keywords(
+        &self,
+        depth: u32,
+        keywords: &[(Text, Expr)],
+        met: &mut u32,
+    ) -> Result<Gathered<NamedValues>, Stop>
+        requires prepared { Prepares self.now.tasks.now self.now.program.now }
+        requires few { met.old ≤ fits.most_met }
+        ensures gives { Evaluates answers_of (seconds_out self.now.tasks.now depth keywords.now) met.old met.new result }
+        ensures room { met.new ≤ fits.most_met }
+    {
+        let mut gathered = Gathered::All(Items::new(self.alloc));
+        for (name, part) in keywords {
+            match self.expression(depth, part, met) {
+                Ok(outcome) => gathered = with_pair(self.alloc, gathered, name, outcome)?,
+                Err(stop) => return Err(stop),
+            }
         }
+        Ok(gathered)
+    }
+
+    /// All pairs' second parts from the left, also behind one that fails.
+    #[cycle(evaluate)]
+    fn pairs(
+        &self,
+        depth: u32,
+        pairs: &[(Value, Expr)],
+        met: &mut u32,
+    ) -> Result<Gathered<Pairs>, Stop>
+        requires prepared { Prepares self.now.tasks.now self.now.program.now }
+        requires few { met.old ≤ fits.most_met }
+        ensures gives { Evaluates answers_of (seconds_out self.now.tasks.now depth pairs.now) met.old met.new result }
+        ensures room { met.new ≤ fits.most_met }
+    {
+        let mut gathered = Gathered::All(Items::new(self.alloc));
+        for (key, part) in pairs {
+            match self.expression(depth, part, met) {
+                Ok(outcome) => gathered = with_pair(self.alloc, gathered, key, outcome)?,
+                Err(stop) => return Err(stop),
+            }
+        }
+        Ok(gathered)
     }
 }
 
@@ -248,9 +431,11 @@ pub fn evaluate(alloc: Global, module: &Module, expr: &Expr) -> Result<Outcome, 
     ensures gives { IfOk result (λ outcome. fits.FreshGives own «module».now expr.now (answer_of outcome)) }
     ensures too_large { result ≡ Err Stop.TooLarge → fits.Fits own «module».now expr.now → ⊥ }
 {
+    let program = prepare(alloc, module)?;
     let evaluation = Evaluation {
         alloc,
         tasks: module,
+        program: &program,
     };
     let mut met = 0;
     match evaluation.go_on(MOST_NESTED, expr, &mut met) {

@@ -20,7 +20,7 @@ fn lazies_in(parts: &[Expr]) -> u32
 
 #[cycle(lazies)]
 fn lazies_named(keywords: &[(Text, Expr)]) -> u32
-    ensures { result ≡ min (sum (fits.seconds (map (λ p. (p.0, fits.lazies p.1)) keywords.now))) u32.MAX }
+    ensures { result ≡ min (sum (fits.counts (map (λ p. (p.0, fits.lazies p.1)) keywords.now))) u32.MAX }
 {
     let mut count: u32 = 0;
     for (_, part) in keywords {
@@ -31,7 +31,7 @@ fn lazies_named(keywords: &[(Text, Expr)]) -> u32
 
 #[cycle(lazies)]
 fn lazies_keyed(pairs: &[(Value, Expr)]) -> u32
-    ensures { result ≡ min (sum (fits.seconds (map (λ p. (p.0, fits.lazies p.1)) pairs.now))) u32.MAX }
+    ensures { result ≡ min (sum (fits.counts (map (λ p. (p.0, fits.lazies p.1)) pairs.now))) u32.MAX }
 {
     let mut count: u32 = 0;
     for (_, part) in pairs {

@@ -1,20 +1,15 @@
-//! The language: sources, their trees and what they mean, and the run of a workflow.
+//! Fresh evaluation, and the run of a workflow from the words to the printed line.
 #![tactic(auto)]
 
-mod bind;
-mod body;
 mod command;
 mod disk;
 mod evaluate;
 mod lazies;
-mod lists;
-mod names;
-mod parse;
 mod print;
 mod serial;
 mod shown;
 mod source;
-mod tree;
+mod tasks;
 
 pub use disk::{Disk, DiskError, Folder, Found, LONGEST_FILE, MemoryDisk};
 pub use evaluate::deeper_is_the_same;

@@ -1,24 +1,32 @@
 //! The call that the program makes.
 
-ghost use Rattle.std.specs.Prelude.{◌≡◌, ◌≢◌, ◌⊎◌, ◌++◌, Ok, IfOk, OnOk, map, string_bytes};
+ghost use Rattle.std.specs.Prelude.{◌≡◌, ◌≢◌, ◌⊎◌, ◌++◌, pos, Ok, IfOk, OnOk, map, string_bytes};
 ghost use Rattle.rd_base.specs.Sink.{added};
 ghost use Rattle.rd_base.specs.Causes.{Rose};
+ghost use Rattle.rd_value.specs.Repr.{repr};
+ghost use Rattle.rd_value.specs.declared.value.Datum.TheVariants.{Int};
+ghost use Rattle.rd_value.specs.declared.expr.Lazy.TheVariants.{Val};
+ghost use Rattle.rd_top.specs.Running.{own};
+ghost use Rattle.rd_top.specs.declared.serial.Ending.TheVariants.{SourceRefused};
+ghost use Rattle.rd_top.specs.Arguments.{HoldNoFiles};
 ghost use Rattle.rd_top.specs.Answered.{OfModule, OfText, Comes, Answers, Written, Answered, Completes};
 ghost use Rattle.rd_top.specs.Printed.{PrintedIsFresh, line_of, status_of};
 ghost use Rattle.rd_top.specs.Shown as shown;
 
 use crate::command::read_command;
 use crate::disk::{Disk, DiskError, Found};
-use crate::evaluate::{Stop, evaluate, find};
-use crate::names::names_are_kept;
+use crate::evaluate::{Stop, evaluate};
 use crate::print::print;
 use crate::shown::{push_failure, push_value};
 use crate::source::read_source;
-use crate::tree::Module;
+use crate::tasks::find_word;
 use rd_base::{Copies, Items, OutOfMemory, Sink, SinkFailed, Status, Text};
 use rd_syntax::SourceError;
-use rd_value::expr::Expr;
+use rd_tree::Module;
+use rd_value::expr::{Expr, NamedExprs};
 use rd_value::failure::Outcome;
+use rd_value::repr::push_repr;
+use rd_value::value::Value;
 use std::alloc::Global;
 
 /// What a command came to, before anything is printed.
@@ -26,23 +34,41 @@ use std::alloc::Global;
 pub enum Ending {
     Outcome(Outcome),
     WordsRefused,
-    SourceRefused,
+    /// At this line.
+    SourceRefused(u32),
     DiskUnavailable,
     TooLarge,
     NotFound(Text),
 }
 
-/// Evaluates the task of a module that is called without arguments.
-fn run_task(alloc: Global, module: &Module, task: &Text) -> Result<Ending, OutOfMemory>
-    ensures { IfOk result (OfModule «module».now task.now) }
+/// The arguments of the root expression.
+fn root_arguments(alloc: Global, arguments: &[(Text, Value)]) -> Result<NamedExprs, OutOfMemory>
+    ensures { IfOk result (λ named. named ≡ map (λ a. (a.0, Val a.1)) arguments.now) }
 {
-    if find(module.functions.as_slice(), task).is_none() {
-        return Ok(Ending::NotFound(task.copy(alloc)?));
+    let mut named = Items::new(alloc);
+    for (name, value) in arguments {
+        named.push(alloc, (name.copy(alloc)?, Expr::Val(value.copy(alloc)?)))?;
     }
+    Ok(named)
+}
+
+/// Evaluates the task of a module that a word names, called with the arguments.
+fn run_task(
+    alloc: Global,
+    module: &Module,
+    word: &Text,
+    arguments: &[(Text, Value)],
+) -> Result<Ending, OutOfMemory>
+    requires { HoldNoFiles arguments.now }
+    ensures { IfOk result (OfModule «module».now word.now arguments.now) }
+{
+    let Some(task) = find_word(alloc, module, word)? else {
+        return Ok(Ending::NotFound(word.copy(alloc)?));
+    };
     let root = Expr::Call {
-        task: task.copy(alloc)?,
+        task,
         positional: Items::new(alloc),
-        keywords: Items::new(alloc),
+        keywords: root_arguments(alloc, arguments)?,
     };
     if !root.within() {
         return Ok(Ending::WordsRefused);
@@ -54,18 +80,20 @@ fn run_task(alloc: Global, module: &Module, task: &Text) -> Result<Ending, OutOf
     }
 }
 
-fn run_source(alloc: Global, source: &[u8], task: &Text) -> Result<Ending, OutOfMemory>
-    ensures { IfOk result (OfText source.now task.now) }
+fn run_source(
+    alloc: Global,
+    source: &[u8],
+    word: &Text,
+    arguments: &[(Text, Value)],
+) -> Result<Ending, OutOfMemory>
+    requires { HoldNoFiles arguments.now }
+    ensures { IfOk result (OfText source.now word.now arguments.now) }
 {
-    let module = match read_source(alloc, source) {
-        Ok(module) => module,
-        Err(SourceError::Refused { .. }) => return Ok(Ending::SourceRefused),
-        Err(SourceError::OutOfMemory) => return Err(OutOfMemory),
-    };
-    if !names_are_kept(alloc, &module)? {
-        return Ok(Ending::SourceRefused);
+    match read_source(alloc, source) {
+        Ok(module) => run_task(alloc, &module, word, arguments),
+        Err(SourceError::Refused { line }) => Ok(Ending::SourceRefused(line)),
+        Err(SourceError::OutOfMemory) => Err(OutOfMemory),
     }
-    run_task(alloc, &module, task)
 }
 
 fn run<D: Disk>(alloc: Global, words: &[String], disk: &mut D) -> Result<Ending, OutOfMemory>
@@ -78,8 +106,13 @@ fn run<D: Disk>(alloc: Global, words: &[String], disk: &mut D) -> Result<Ending,
         None => return Ok(Ending::WordsRefused),
     };
     match disk.read(alloc, &command.file) {
-        Ok(Found::Bytes(source)) => run_source(alloc, source.as_slice(), &command.task),
-        Ok(Found::Long) => Ok(Ending::SourceRefused),
+        Ok(Found::Bytes(source)) => run_source(
+            alloc,
+            source.as_slice(),
+            &command.task,
+            command.arguments.as_slice(),
+        ),
+        Ok(Found::Long) => Ok(Ending::SourceRefused(1)),
         Ok(Found::Absent) => Ok(Ending::NotFound(Text::from_str(alloc, command.file.as_str())?)),
         Err(DiskError::Failed) => Ok(Ending::DiskUnavailable),
         Err(DiskError::OutOfMemory) => Err(OutOfMemory),
@@ -95,6 +128,24 @@ fn push_words(line: &mut String, text: &str, word: &str) -> Result<(), OutOfMemo
     Ok(())
 }
 
+fn push_number(line: &mut String, number: u32) -> Result<(), OutOfMemory>
+    ensures { OnOk result (string_bytes line.new ≡ string_bytes line.old ++ repr own (Int (pos number))) }
+{
+    let value = Value::Int(i64::from(number));
+    let pushed = push_repr(line, &value);
+    drop(value);
+    pushed
+}
+
+fn push_refusal(line: &mut String, number: u32) -> Result<(), OutOfMemory>
+    ensures { OnOk result (string_bytes line.new ≡ string_bytes line.old ++ line_of (SourceRefused number)) }
+{
+    line.push_str("source refused at line ")?;
+    push_number(line, number)?;
+    line.push_str("\n")?;
+    Ok(())
+}
+
 fn push_line(line: &mut String, ending: &Ending) -> Result<(), OutOfMemory>
     ensures { OnOk result (string_bytes line.new ≡ string_bytes line.old ++ line_of ending.now) }
 {
@@ -102,7 +153,7 @@ fn push_line(line: &mut String, ending: &Ending) -> Result<(), OutOfMemory>
         Ending::Outcome(Outcome::Value(value)) => push_value(line, value),
         Ending::Outcome(Outcome::Failed(failure)) => push_failure(line, failure),
         Ending::WordsRefused => push_words(line, "words refused", ""),
-        Ending::SourceRefused => push_words(line, "source refused at line 1", ""),
+        Ending::SourceRefused(number) => push_refusal(line, *number),
         Ending::DiskUnavailable => push_words(line, "disk unavailable", ""),
         Ending::TooLarge => push_words(line, "too large", ""),
         Ending::NotFound(word) => push_words(line, "not found: ", word.as_str()),
@@ -116,7 +167,7 @@ fn status(ending: &Ending) -> Status
         Ending::Outcome(Outcome::Value(_)) => Status::Done,
         Ending::Outcome(Outcome::Failed(_)) => Status::WorkflowError,
         Ending::WordsRefused => Status::WordsRefused,
-        Ending::SourceRefused => Status::SourceRefused { line: 1 },
+        Ending::SourceRefused(line) => Status::SourceRefused { line: *line },
         Ending::DiskUnavailable => Status::DiskUnavailable,
         Ending::TooLarge => Status::TooLarge,
         Ending::NotFound(_) => Status::NotFound,
@@ -151,9 +202,10 @@ fn end<S: Sink>(out: &mut S, line: &str, status: Status) -> Status
     }
 }
 
-/// Runs the task of a workflow's file: `run FILE TASK` prints its value or its error.
+/// Runs the task of a workflow's file: `run FILE TASK [NAME=VALUE]..` prints its value or its error.
 ///
-/// FILE is a lawful path, TASK has one byte or more, and neither begins with `-`, except `-` itself.
+/// FILE is a lawful path, TASK has one byte or more, and neither begins with `-`, except `-` itself. Each NAME is a name
+/// of the language and there once. A VALUE is the literal that it spells, and else its own text.
 /// Statuses: 0 and 1 for a value and an error of the workflow, 2 for other words, 3 for a file that is no source, 5 where
 /// the disk failed, 6 for want of memory, 7 for an evaluation past its limits, 10 where the sink failed,
 /// 11 where there is no such file or task. Each but 10 prints its line.

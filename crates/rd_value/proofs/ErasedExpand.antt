@@ -29,11 +29,11 @@ module _ {F G : Type 0} (h : F → G) where
   unfolding made.roll-Datum denote.Hole.Carrier.roll
   error_with_files e = fold-roll-Datum F (Datum G) (λ x. made.roll-Datum G (with_file h x)) (Datum-F.Error e)
 
-  val_with_files : (v : Datum F) → with_files_expr h (expr.Val v) ≡ expr.Val (with_files h v)
+  pub val_with_files : (v : Datum F) → with_files_expr h (expr.Val v) ≡ expr.Val (with_files h v)
   unfolding lazy.roll-Lazy denote.Hole.Carrier.roll
   val_with_files v = fold-roll-Lazy F (Lazy G) (λ x. lazy.roll-Lazy G (with_file_expr h x)) (Lazy-F.Val v)
 
-  list_of_with_files : (es : List (Lazy F)) → with_files_expr h (expr.ListOf es) ≡ expr.ListOf (map (with_files_expr h) es)
+  pub list_of_with_files : (es : List (Lazy F)) → with_files_expr h (expr.ListOf es) ≡ expr.ListOf (map (with_files_expr h) es)
   unfolding lazy.roll-Lazy denote.Hole.Carrier.roll
   list_of_with_files es = fold-roll-Lazy F (Lazy G) (λ x. lazy.roll-Lazy G (with_file_expr h x)) (Lazy-F.ListOf es)
 
@@ -41,7 +41,7 @@ module _ {F G : Type 0} (h : F → G) where
   unfolding lazy.roll-Lazy denote.Hole.Carrier.roll
   call_of_one task e = fold-roll-Lazy F (Lazy G) (λ x. lazy.roll-Lazy G (with_file_expr h x)) (Lazy-F.Call task (e ∷ []) [])
 
-  call_with_files : (task : List ℕ) (v : Datum F) → with_files_expr h (call_with task v) ≡ call_with task (with_files h v)
+  pub call_with_files : (task : List ℕ) (v : Datum F) → with_files_expr h (call_with task v) ≡ call_with task (with_files h v)
   call_with_files task v = call_of_one task (expr.Val v) ∙ ap (λ e. expr.Call task (e ∷ []) []) (val_with_files v)
 
   calls_with_files : (task : List ℕ) (vs : List (Datum F)) → map (call_with task) (map (with_files h) vs) ≡ map (with_files_expr h) (map (call_with task) vs)
@@ -49,7 +49,7 @@ module _ {F G : Type 0} (h : F → G) where
   calls_with_files task (v ∷ vs) = rw (calls_with_files task vs, call_with_files task v) refl
 
   -- what is seen at the first layer
-  out_with_files_expr : (e : Lazy F) → out-Lazy G (with_files_expr h e) ≡ with_file_expr h (map-Lazy F (Lazy F) (Lazy G) (with_files_expr h) (out-Lazy F e))
+  pub out_with_files_expr : (e : Lazy F) → out-Lazy G (with_files_expr h e) ≡ with_file_expr h (map-Lazy F (Lazy F) (Lazy G) (with_files_expr h) (out-Lazy F e))
   out_with_files_expr e =
       ap (out-Lazy G) (fold_out-Lazy F (Lazy G) (λ x. lazy.roll-Lazy G (with_file_expr h x)) e) ∙ lazy.out-roll-Lazy G (with_file_expr h (map-Lazy F (Lazy F) (Lazy G) (with_files_expr h) (out-Lazy F e)))
 
@@ -57,7 +57,7 @@ module _ {F G : Type 0} (h : F → G) where
   value_lifted (Lazy-F.Val v) = refl
   value_lifted x = refl
 
-  value_with_files : (e : Lazy F) → value_of (with_files_expr h e) ≡ option_map (with_files h) (value_of e)
+  pub value_with_files : (e : Lazy F) → value_of (with_files_expr h e) ≡ option_map (with_files h) (value_of e)
   value_with_files e = ap value_at (out_with_files_expr e) ∙ value_lifted (out-Lazy F e)
 
   firsts : (o : Option (Datum F)) (os : Option (List (Datum F))) → with_first (option_map (with_files h) o) (option_map (map (with_files h)) os) ≡ option_map (map (with_files h)) (with_first o os)
@@ -65,7 +65,7 @@ module _ {F G : Type 0} (h : F → G) where
   firsts (Some v) None = refl
   firsts None os = refl
 
-  values_with_files : (es : List (Lazy F)) → values_of (map (with_files_expr h) es) ≡ option_map (map (with_files h)) (values_of es)
+  pub values_with_files : (es : List (Lazy F)) → values_of (map (with_files_expr h) es) ≡ option_map (map (with_files h)) (values_of es)
   values_with_files [] = refl
   values_with_files (e ∷ es) = rw (value_with_files e, values_with_files es) (firsts (value_of e) (values_of es))
 
@@ -79,10 +79,10 @@ module _ {F G : Type 0} (h : F → G) where
       [ true ↦ ap Some (sym (call_with_files recover (variant.Error e) ∙ ap (call_with recover) (error_with_files e))) | false ↦ refl ]
 
 module _ {F G : Type 0} (h : F → G) (file : G → FileValue) where
-  listed_with_files : (es : List (Lazy F)) → listed file (map (with_files_expr h) es) ≡ with_files_expr h (listed (λ f. file (h f)) es)
+  pub listed_with_files : (es : List (Lazy F)) → listed file (map (with_files_expr h) es) ≡ with_files_expr h (listed (λ f. file (h f)) es)
   listed_with_files es = rw (values_with_files h es) (list_of_either h es (values_of es))
 
-  kept_expr_carried : (e : Lazy F) → kept_expr file (with_files_expr h e) ≡ carried_expr h (kept_expr (λ f. file (h f)) e)
+  pub kept_expr_carried : (e : Lazy F) → kept_expr file (with_files_expr h e) ≡ carried_expr h (kept_expr (λ f. file (h f)) e)
   kept_expr_carried e = rw (is_within_expr_with_files h file e) (elim (is_within_expr (λ f. file (h f)) e) as (λ b. cond b (Ok (with_files_expr h e)) (Err value_limit) ≡ carried_expr h (cond b (Ok e) (Err value_limit))) [ true ↦ refl | false ↦ refl ])
 
   map_lifted : (task : List ℕ) (x : Datum-F F (Datum F)) → map_at file task (lifted h x) ≡ carried_expr h (map_at (λ f. file (h f)) task x)

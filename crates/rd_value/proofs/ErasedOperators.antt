@@ -31,15 +31,15 @@ use Rattle.rd_value.proofs.ErasedLimits.{is_within_with_files}
 
 -- ---- lists
 
-slice_get_map : {A B : Type 0} (f : A → B) (xs : List A) (i : ℕ) → slice_get (map f xs) i ≡ option_map f (slice_get xs i)
+pub slice_get_map : {A B : Type 0} (f : A → B) (xs : List A) (i : ℕ) → slice_get (map f xs) i ≡ option_map f (slice_get xs i)
 slice_get_map f [] i = refl
 slice_get_map f (x ∷ xs) zero = refl
 slice_get_map f (x ∷ xs) (suc i) = slice_get_map f xs i
 
-count_map : {A B : Type 0} (f : A → B) (xs : List A) → length (map f xs) ≡ length xs
+pub count_map : {A B : Type 0} (f : A → B) (xs : List A) → length (map f xs) ≡ length xs
 count_map f xs = simp length-map
 
-repeat_map : {A B : Type 0} (f : A → B) (n : ℕ) (xs : List A) → map f (repeat n xs) ≡ repeat n (map f xs)
+pub repeat_map : {A B : Type 0} (f : A → B) (n : ℕ) (xs : List A) → map f (repeat n xs) ≡ repeat n (map f xs)
 repeat_map f zero xs = refl
 repeat_map f (suc n) xs = map-append f xs (repeat n xs) ∙ ap (λ ys. map f xs ++ ys) (repeat_map f n xs)
 
@@ -50,7 +50,7 @@ module _ {F G : Type 0} (h : F → G) where
 
   -- ---- numbers
 
-  kept_int_carried : (n : ℤ) → kept_int n ≡ carried h (kept_int n)
+  pub kept_int_carried : (n : ℤ) → kept_int n ≡ carried h (kept_int n)
   kept_int_carried n =
       elim (is_in_range n) as (λ b. cond b (Ok (variant.Int n)) (Err out_of_range) ≡ carried h (cond b (Ok (variant.Int n)) (Err out_of_range))) [ true ↦ ap Ok (sym (int_with_files h n)) | false ↦ refl ]
 

@@ -19,8 +19,6 @@ pub mod operators;
 pub mod raise;
 pub mod repr;
 pub mod same;
-#[cfg(test)]
-mod same_tests;
 pub mod signature;
 mod size;
 #[cfg(test)]

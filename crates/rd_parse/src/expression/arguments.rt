@@ -14,9 +14,9 @@ use crate::expression::{Read, Tree};
 use crate::halt::Halt;
 use crate::take::{after, begins_with, expect, name};
 use crate::terminal::{Terminal, terminal_of};
-use crate::tree::Name;
 use rd_base::OutOfMemory;
 use rd_syntax::Token;
+use rd_tree::Name;
 use std::alloc::Global;
 
 /// An argument of a call.

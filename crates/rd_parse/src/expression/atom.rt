@@ -13,8 +13,8 @@ use crate::halt::Halt;
 use crate::take::{begins_with, constant, expect, name, number, open};
 use crate::terminal::{Terminal, terminal_of};
 use crate::texts::texts;
-use crate::tree::Node;
 use rd_syntax::Token;
+use rd_tree::Node;
 use rd_value::value::Value;
 use std::alloc::Global;
 

@@ -2,12 +2,12 @@
 
 ghost use Rattle.std.specs.Prelude.{◌≡◌, IfOk, ◌∷◌};
 ghost use Rattle.rd_parse.specs.Expressions.{anded, called, chained, comp, ored, with_part};
-ghost use Rattle.rd_parse.specs.declared.tree.Node.TheVariants as node;
+ghost use Rattle.rd_tree.specs.declared.tree.Node.TheVariants as node;
 
 use crate::expression::Tree;
 use crate::expression::arguments::{Given, sorted};
-use crate::tree::{Comparison, Name, Node, Operator};
 use rd_base::{Boxed, Items, OutOfMemory, Text};
+use rd_tree::{Comparison, Name, Node, Operator};
 use std::alloc::Global;
 
 /// One operand alone, or a chain.

@@ -16,9 +16,9 @@ use crate::expression::{Read, Tree};
 use crate::halt::Halt;
 use crate::take::{after, begins_with, expect, name, open};
 use crate::terminal::Terminal;
-use crate::tree::{Name, Node};
 use rd_base::Items;
 use rd_syntax::Token;
+use rd_tree::{Name, Node};
 use std::alloc::Global;
 
 impl<F: Fn(Global, Rule, usize, &[Token]) -> Result<(Tree, &[Token]), Halt<'_>>> Inner<F> {

@@ -15,9 +15,9 @@ use crate::expression::{Read, Tree};
 use crate::halt::Halt;
 use crate::take::{begins_with, expect, open};
 use crate::terminal::{Terminal, terminal_of};
-use crate::tree::{Comparison, Node, Operator};
 use rd_base::Boxed;
 use rd_syntax::Token;
+use rd_tree::{Comparison, Node, Operator};
 use std::alloc::Global;
 
 fn begins_comparison(tokens: &[Token]) -> bool

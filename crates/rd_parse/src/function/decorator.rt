@@ -12,9 +12,9 @@ use crate::halt::Halt;
 use crate::literal::inner_literal;
 use crate::take::{after, begins_with, expect, name, open, this_word};
 use crate::terminal::Terminal;
-use crate::tree::TaskOption;
 use rd_base::Items;
 use rd_syntax::Token;
+use rd_tree::TaskOption;
 use std::alloc::Global;
 
 #[tactic(auto, unfolding(crate::specs::ModuleReading::read_option))]

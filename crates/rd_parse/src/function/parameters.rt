@@ -14,9 +14,9 @@ use crate::halt::Halt;
 use crate::literal::literal;
 use crate::take::{after, begins_with, expect, name, open};
 use crate::terminal::Terminal;
-use crate::tree::{Name, Parameter};
 use rd_base::Items;
 use rd_syntax::Token;
+use rd_tree::{Name, Parameter};
 use rd_value::value::Value;
 use std::alloc::Global;
 

@@ -3,8 +3,8 @@
 ghost use Rattle.std.specs.Prelude.{◌≡◌, IfOk};
 ghost use Rattle.rd_parse.specs.Modules.{module_of};
 
-use crate::tree::{Function, Module, Name};
 use rd_base::{Items, OutOfMemory};
+use rd_tree::{Function, Module, Name};
 use std::alloc::Global;
 
 /// A part of a module.

@@ -14,9 +14,9 @@ use crate::statement::Command;
 use crate::statement::simple::{Said, line};
 use crate::take::{begins_with, expect, name, open};
 use crate::terminal::{Terminal, terminal_of};
-use crate::tree::Statement;
 use rd_base::{Items, OutOfMemory};
 use rd_syntax::Token;
+use rd_tree::Statement;
 use std::alloc::Global;
 
 /// A test with its block.

@@ -16,9 +16,9 @@ use crate::halt::Halt;
 use crate::statement::Command;
 use crate::take::{begins_with, expect, name, open};
 use crate::terminal::{Terminal, terminal_of};
-use crate::tree::{Name, Node, Operator, Statement};
 use rd_base::{Boxed, Copies, Items, OutOfMemory};
 use rd_syntax::Token;
+use rd_tree::{Name, Node, Operator, Statement};
 use std::alloc::Global;
 
 /// A statement, or none.

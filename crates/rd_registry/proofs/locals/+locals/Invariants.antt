@@ -1,7 +1,7 @@
 use Rattle.std.proofs.Common.{◌≡◌, ◌+◌, ◌*◌, drop, map}
 use denote.Param.Weighed.{most}
-use Rattle.rd_parse.specs.declared.tree.Name.{Name}
-use Rattle.rd_parse.specs.declared.tree.Statement.{size-Statement}
+use Rattle.rd_tree.specs.declared.tree.Name.{Name}
+use Rattle.rd_tree.specs.declared.tree.Statement.{size-Statement}
 use Rattle.rd_registry.specs.Names.{with_names}
 use Rattle.rd_registry.specs.Uses.{joined, assigned, assigned_in}
 use Rattle.rd_registry.proofs.locals.+locals.Given as goal

@@ -1,7 +1,7 @@
 use Rattle.std.proofs.Common.{◌≡◌, ◌⊎◌, inl, inr, ◌++◌, ◌∙◌, ap, sym, map, ℕ, Bool, List, arith}
-use Rattle.rd_parse.specs.declared.tree.Name.{Name}
-use Rattle.rd_parse.specs.declared.tree.Node.{Node}
-use Rattle.rd_parse.specs.declared.tree.Node.TheVariants as variant
+use Rattle.rd_tree.specs.declared.tree.Name.{Name}
+use Rattle.rd_tree.specs.declared.tree.Node.{Node}
+use Rattle.rd_tree.specs.declared.tree.Node.TheVariants as variant
 use Rattle.rd_registry.specs.declared.refusal.Broken.TheVariants as b
 use Rattle.rd_registry.specs.Uses.{joined}
 use Rattle.rd_registry.specs.Names.{is_among, with_name, unless, at, node_refusals}

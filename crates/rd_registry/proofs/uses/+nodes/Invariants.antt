@@ -1,7 +1,7 @@
 use Rattle.std.proofs.Common.{◌≡◌, ◌+◌, ◌*◌, ◌++◌, max, drop, map}
 use denote.Param.Weighed.{most}
-use Rattle.rd_parse.specs.declared.tree.Name.{Name}
-use Rattle.rd_parse.specs.declared.tree.Node.{size-Node}
+use Rattle.rd_tree.specs.declared.tree.Name.{Name}
+use Rattle.rd_tree.specs.declared.tree.Node.{size-Node}
 use Rattle.rd_registry.specs.Uses.{joined}
 use Rattle.rd_registry.specs.Names.{is_among, node_refusals}
 use Rattle.rd_registry.proofs.uses.+nodes.Given as goal

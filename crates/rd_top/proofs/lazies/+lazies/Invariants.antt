@@ -3,17 +3,17 @@ use Rattle.std.specs.Prelude.{sum}
 use denote.Param.Weighed.{most}
 use Rattle.rd_value.specs.declared.value.FileValue.{FileValue}
 use Rattle.rd_value.specs.declared.expr.Lazy.{size-Lazy}
-use Rattle.rd_top.specs.Fits.{lazies, seconds}
+use Rattle.rd_top.specs.Fits.{lazies, counts}
 use Rattle.rd_top.proofs.lazies.+lazies.Given as goal
 
 abbrev pub invariant-lazies_in-loop-part : goal.invariant-lazies_in-loop-part
 invariant-lazies_in-loop-part l = (l.count < 2 ^ 32) × (min (l.count + sum (map lazies (drop l.part-index l.parts))) (2 ^ 32 - 1) ≡ min (sum (map lazies l.parts)) (2 ^ 32 - 1))
 
 abbrev pub invariant-lazies_named-loop-part : goal.invariant-lazies_named-loop-part
-invariant-lazies_named-loop-part l = (l.count < 2 ^ 32) × (min (l.count + sum (seconds (map (λ p. (p.0, lazies p.1)) (drop l.part-index l.keywords)))) (2 ^ 32 - 1) ≡ min (sum (seconds (map (λ p. (p.0, lazies p.1)) l.keywords))) (2 ^ 32 - 1))
+invariant-lazies_named-loop-part l = (l.count < 2 ^ 32) × (min (l.count + sum (counts (map (λ p. (p.0, lazies p.1)) (drop l.part-index l.keywords)))) (2 ^ 32 - 1) ≡ min (sum (counts (map (λ p. (p.0, lazies p.1)) l.keywords))) (2 ^ 32 - 1))
 
 abbrev pub invariant-lazies_keyed-loop-part : goal.invariant-lazies_keyed-loop-part
-invariant-lazies_keyed-loop-part l = (l.count < 2 ^ 32) × (min (l.count + sum (seconds (map (λ p. (p.0, lazies p.1)) (drop l.part-index l.pairs)))) (2 ^ 32 - 1) ≡ min (sum (seconds (map (λ p. (p.0, lazies p.1)) l.pairs))) (2 ^ 32 - 1))
+invariant-lazies_keyed-loop-part l = (l.count < 2 ^ 32) × (min (l.count + sum (counts (map (λ p. (p.0, lazies p.1)) (drop l.part-index l.pairs)))) (2 ^ 32 - 1) ≡ min (sum (counts (map (λ p. (p.0, lazies p.1)) l.pairs))) (2 ^ 32 - 1))
 
 -- a list is walked before its parts, so it counts one more than the deepest of them
 abbrev pub decreases-lazies : goal.decreases-lazies

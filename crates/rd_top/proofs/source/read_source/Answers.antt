@@ -1,15 +1,39 @@
-use Rattle.std.proofs.Common.{List, sym, subst}
+use Rattle.std.proofs.Common.{sym}
 use Rattle.std.proofs.lemmas.Result.{err_from_is_err_and}
-use Rattle.rd_syntax.specs.declared.token.Token.{Token}
-use Rattle.rd_top.specs.Grammar.{IsModule}
-use Rattle.rd_top.proofs.Sources.{still_memory}
+use Rattle.rd_registry.specs.Refusals.{told}
+use Rattle.rd_top.proofs.Sources.{no_tokens, no_workflow, no_module, only_memory, source_of, names_only, names_refused, one_source}
 use Rattle.rd_top.proofs.source.read_source.Goals as goal
 
 pub returns-in_err-tokens-clause-only : goal.returns-in_err-tokens-clause-only
-returns-in_err-tokens-clause-only c = λ m s.
+returns-in_err-tokens-clause-only c = λ m w.
     let p = err_from_is_err_and c.from_residual.result c.from_residual.ensures.1 in
-    rw (p.1, p.2) (still_memory c.in_err-tokens.field-0.0 s.tokens m (c.in_err-tokens.ensures.only s.tokens s.has_tokens))
+    rw (p.1, p.2) (no_workflow c.args.source.now c.in_err-tokens.field-0.0 m c.in_err-tokens.ensures.only w)
+
+pub returns-in_err-tokens-clause-line : goal.returns-in_err-tokens-clause-line
+returns-in_err-tokens-clause-line c =
+    let p = err_from_is_err_and c.from_residual.result c.from_residual.ensures.1 in
+    rw (p.1, p.2) (no_tokens c.args.source.now c.in_err-tokens.field-0.0 c.in_err-tokens.ensures.only c.in_err-tokens.ensures.line)
+
+pub returns-in_err-module-clause-only : goal.returns-in_err-module-clause-only
+returns-in_err-module-clause-only c = λ m w.
+    let p = err_from_is_err_and c.from_residual-in_err-module.result c.from_residual-in_err-module.ensures.1 in
+    rw (p.1, p.2) (only_memory c.args.source.now c.in_ok-tokens.tokens c.in_ok-tokens.ensures.found c.in_err-module.field-0.0 m c.in_err-module.ensures.only w)
+
+pub returns-in_err-module-clause-line : goal.returns-in_err-module-clause-line
+returns-in_err-module-clause-line c =
+    let p = err_from_is_err_and c.from_residual-in_err-module.result c.from_residual-in_err-module.ensures.1 in
+    rw (p.1, p.2) (no_module c.args.source.now c.in_ok-tokens.tokens c.in_ok-tokens.ensures.found c.in_err-module.field-0.0 c.in_err-module.ensures.only c.in_err-module.ensures.line)
+
+pub returns-in-Ok-clause-only : goal.returns-in-Ok-clause-only
+returns-in-Ok-clause-only c = λ m w.
+    one_source c.args.source.now c.in_ok-module.module m (source_of c.args.source.now c.in_ok-tokens.tokens c.in_ok-tokens.ensures.found c.in_ok-module.module c.in_ok-module.ensures.found) w.reads
 
 pub returns-clause-only : goal.returns-clause-only
-returns-clause-only c = λ m s.
-    c.parse.ensures.only m (subst (λ (ts : List Token). IsModule ts m) (sym (c.in_ok-tokens.ensures.only s.tokens s.has_tokens)) s.spells)
+returns-clause-only c = λ m w.
+    let reads = source_of c.args.source.now c.in_ok-tokens.tokens c.in_ok-tokens.ensures.found c.in_ok-module.module c.in_ok-module.ensures.found in
+    rw c.refusal.ensures (names_only c.args.source.now c.in_ok-module.module reads (told c.in-Err.error) c.in-Err.ensures.broken m w)
+
+pub returns-clause-line : goal.returns-clause-line
+returns-clause-line c =
+    let reads = source_of c.args.source.now c.in_ok-tokens.tokens c.in_ok-tokens.ensures.found c.in_ok-module.module c.in_ok-module.ensures.found in
+    rw c.refusal.ensures (names_refused c.args.source.now c.in_ok-module.module reads (told c.in-Err.error) c.in-Err.ensures.broken c.in-Err.ensures.refused)

@@ -1,6 +1,6 @@
 use Rattle.std.proofs.Common.{rules, ◌≡◌, true, sym, ◌∙◌}
 use Rattle.rd_parse.specs.declared.terminal.Terminal.TheVariants as w
-use Rattle.rd_parse.specs.declared.tree.TaskOption.{TaskOption}
+use Rattle.rd_tree.specs.declared.tree.TaskOption.{TaskOption}
 use Rattle.rd_parse.specs.Reader.{hits, sees}
 use Rattle.rd_parse.specs.Terminal.{is}
 use Rattle.rd_parse.specs.ModuleReading.{read_option}

@@ -1,0 +1,24 @@
+//! Runs the body of a task.
+#![tactic(auto)]
+
+mod binding;
+pub mod builtin;
+mod builtins;
+mod display;
+mod draft;
+mod frame;
+mod halt;
+mod held;
+mod making;
+pub mod method;
+mod methods;
+mod operation;
+mod routine;
+mod run;
+mod scope;
+mod template;
+mod texts;
+mod turns;
+
+pub use routine::{Callee, Parameter, Routine, Slot, Word};
+pub use run::{Reduced, reduce};
