@@ -1,24 +1,7 @@
-//! Runs the body of a task.
+//! Runs the bodies of tasks.
 #![tactic(auto)]
 
-mod binding;
-pub mod builtin;
-mod builtins;
-mod display;
-mod draft;
-mod frame;
-mod halt;
-mod held;
-mod making;
-pub mod method;
-mod methods;
-mod operation;
-mod routine;
-mod run;
-mod scope;
-mod template;
-mod texts;
-mod turns;
+mod job;
+pub mod laws;
 
-pub use routine::{Callee, Parameter, Routine, Slot, Word};
-pub use run::{Reduced, reduce};
+pub use job::{BodyJob, Finished, Reduction, run_body};

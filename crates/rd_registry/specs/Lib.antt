@@ -1,5 +1,6 @@
-pub mod Refusals
-pub mod Spelling
-pub mod Options
-pub mod Uses
-pub mod Names
+pub mod Bodies
+pub mod Codes
+pub mod Functions
+pub mod Reach
+pub mod Resolved
+pub mod Registry

@@ -1,18 +1,11 @@
-//! The rules of names, and the tasks of a module.
+//! The tasks of a module, with their code.
 #![tactic(auto)]
 
-mod locals;
-mod names;
-mod options;
-mod refusal;
-mod repeats;
-mod spelling;
-mod uses;
+mod code;
+mod functions;
+pub mod laws;
+mod reach;
+mod registry;
+mod tree;
 
-pub use names::{check_names, first_namespace};
-pub use options::full_name;
-pub use refusal::RegisterError;
-pub use spelling::is_name;
-
-#[cfg(test)]
-mod tests;
+pub use registry::{Registry, register};

@@ -1,80 +1,116 @@
-//! Gives each line of its files, as a source, to the rules of names, and prints it with the answer.
+//! Runs the task `main` of each row's source as a body, and prints the row with what it comes to.
 //!
-//! In a line `\n` stands for the end of a line of the source. The answer is `kept`, or the rule that is broken first and its line.
+//! - `operators.txt`, `displays.txt`, `builtins.txt`, `methods.txt`, `pending.txt` and `limits.txt`: a line is the expression that `main` returns. `f` is a task.
+//! - `arguments.txt`: the same, where the argument `e` is an error and `g` is a file.
+//! - `classes.txt`: a line is a class, which `main` raises with the text `t`.
+//! - `bodies.txt`: a source stands behind each line of `-- ` and words.
+//! - `steps.txt`: a line is statements of `main` with `;` between them, ` | `, and how many steps they take. In front of them stand statements that leave just so many steps, and then one fewer.
 #![tactic(auto)]
 
-use rd_parse::{Module, parse};
-use rd_registry::{RegisterError, check_names};
-use rd_syntax::lex;
+mod answers;
+mod arguments;
+mod steps;
+
+use answers::answer;
 use std::alloc::Global;
 use std::fs;
 use std::process::ExitCode;
 
-const FILES: [&str; 13] = [
-    "values.txt",
-    "comprehensions.txt",
-    "calls.txt",
-    "raised_classes.txt",
-    "expressions.txt",
-    "statements.txt",
-    "builtins.txt",
-    "error_classes.txt",
-    "names_twice.txt",
-    "full_names.txt",
-    "options.txt",
-    "namespaces.txt",
-    "first.txt",
+/// What the rows of a file are.
+#[derive(Clone, Copy)]
+enum Rows {
+    Expressions,
+    Arguments,
+    Classes,
+    Bodies,
+    Steps,
+}
+
+const FILES: [(&str, Rows); 10] = [
+    ("operators.txt", Rows::Expressions),
+    ("displays.txt", Rows::Expressions),
+    ("builtins.txt", Rows::Expressions),
+    ("methods.txt", Rows::Expressions),
+    ("pending.txt", Rows::Expressions),
+    ("limits.txt", Rows::Expressions),
+    ("arguments.txt", Rows::Arguments),
+    ("classes.txt", Rows::Classes),
+    ("bodies.txt", Rows::Bodies),
+    ("steps.txt", Rows::Steps),
 ];
 
-/// The source of a line.
-fn source(alloc: Global, row: &str) -> Option<String> {
-    let mut lines = row.split("\\n");
-    let mut source = String::from_str(alloc, lines.next()?).ok()?;
-    for line in lines {
-        source.push_str("\n").ok()?;
-        source.push_str(line).ok()?;
-    }
-    Some(source)
+/// From so many bytes on an answer is cut.
+const LONG: usize = 200;
+
+fn expression(alloc: Global, row: &str) -> Option<String> {
+    let task = "@task\ndef f(x=0): return x\n";
+    let source = format!(in alloc; "{task}@task\ndef main(): return {row}").ok()?;
+    answer(alloc, source.as_str(), &[])
 }
 
-fn judged(alloc: Global, module: &Module) -> Option<String> {
-    match check_names(alloc, module) {
-        Ok(()) => String::from_str(alloc, "kept").ok(),
-        Err(RegisterError::DoubleName { line }) => format!(in alloc; "double {line}").ok(),
-        Err(RegisterError::BadOption { line }) => format!(in alloc; "option {line}").ok(),
-        Err(RegisterError::UnknownName { line }) => format!(in alloc; "unknown {line}").ok(),
-        Err(RegisterError::OutOfMemory) => None,
+fn class(alloc: Global, row: &str) -> Option<String> {
+    let source = format!(in alloc; "@task\ndef main(): raise {row}('t')").ok()?;
+    answer(alloc, source.as_str(), &[])
+}
+
+/// What the row comes to. There is nothing where memory runs out, or where the source isn't read.
+fn row_answer(alloc: Global, rows: Rows, row: &str) -> Option<String> {
+    match rows {
+        Rows::Expressions => expression(alloc, row),
+        Rows::Arguments => arguments::with_arguments(alloc, row),
+        Rows::Classes => class(alloc, row),
+        Rows::Bodies => answer(alloc, row, &[]),
+        Rows::Steps => steps::with_steps(alloc, row),
     }
 }
 
-/// What the names of a source are refused for. There is nothing where memory runs out, or where the source isn't read.
-fn answer(alloc: Global, row: &str) -> Option<String> {
-    let source = source(alloc, row)?;
-    let tokens = lex(alloc, source.as_bytes()).ok()?;
-    match parse(alloc, &tokens) {
-        Ok(module) => {
-            let answer = judged(alloc, &module);
-            drop(module);
-            answer
+/// The answer, or its beginning and how many bytes it has.
+fn shortened(alloc: Global, answer: String) -> Option<String> {
+    if answer.len() < LONG {
+        return Some(answer);
+    }
+    let length = answer.len();
+    let start: String = answer.chars().take(40).collect(alloc).ok()?;
+    format!(in alloc; "{start}.. {length} bytes").ok()
+}
+
+fn show_row(rt: &HostRuntime, rows: Rows, title: &str, row: &str) -> Option<()> {
+    match row_answer(rt.alloc(), rows, row) {
+        Some(answer) => {
+            let answer = shortened(rt.alloc(), answer)?;
+            println!(rt; "{title} => {answer}").ok()
         }
-        Err(_) => None,
+        None => println!(rt; "{title} => no answer").ok(),
     }
 }
 
-fn show_file(rt: &HostRuntime, name: &str) -> Option<()> {
-    let text = fs::read_to_string(rt, name).ok()?;
-    for row in text.lines() {
-        match answer(rt.alloc(), row) {
-            Some(answer) => println!(rt; "{row} => {answer}").ok()?,
-            None => println!(rt; "{row} => no answer").ok()?,
-        }
+fn show_lines(rt: &HostRuntime, rows: Rows, text: &str) -> Option<()> {
+    for line in text.lines() {
+        show_row(rt, rows, line, line)?;
     }
     Some(())
 }
 
+/// The line feed before the next title isn't a part of the source.
+fn show_blocks(rt: &HostRuntime, rows: Rows, text: &str) -> Option<()> {
+    for block in text.strip_suffix('\n')?.strip_prefix("-- ")?.split("\n-- ") {
+        let (title, source) = block.split_once('\n')?;
+        show_row(rt, rows, title, source)?;
+    }
+    Some(())
+}
+
+fn show_file(rt: &HostRuntime, name: &str, rows: Rows) -> Option<()> {
+    let text = fs::read_to_string(rt, name).ok()?;
+    match rows {
+        Rows::Bodies => show_blocks(rt, rows, text.as_str()),
+        _ => show_lines(rt, rows, text.as_str()),
+    }
+}
+
 fn show_files(rt: &HostRuntime) -> Option<()> {
-    for name in FILES {
-        show_file(rt, name)?;
+    for (name, rows) in FILES {
+        show_file(rt, name, rows)?;
     }
     Some(())
 }

@@ -6,7 +6,7 @@ use Rattle.rd_value.specs.declared.expr.Lazy.{Lazy, out-Lazy}
 use Rattle.rd_value.specs.declared.expr.Lazy.TheOpen.{Lazy-F}
 use Rattle.rd_value.specs.declared.failure.Failure.{Failure}
 use Rattle.rd_tree.specs.declared.tree.Module.{Module}
-use Rattle.rd_program.specs.Program.{find_task}
+use Rattle.rd_registry.specs.Bodies.{find_task}
 use Rattle.rd_top.specs.Fresh.{Answer, Gives, Failed, Deep, Out, Arguments, before, join, both, on_answer, then_, inside, calling, step, at_zero, run, fresh, trace, event, Met}
 use Rattle.rd_top.proofs.Kept.{Relation, Keeps, step_kept, call_kept}
 

@@ -1,10 +1,9 @@
 -- Fresh evaluation on the model's files gives what the program's does, with digests in place of texts.
-use Rattle.std.proofs.Common.{◌≡◌, ◌≢◌, ℕ, zero, suc, le_refl, List, [], ◌∷◌, map, Option, None, Some, Result, Ok, Err, refl, sym, ap, subst, ◌∙◌}
+use Rattle.std.proofs.Common.{◌≡◌, ◌≢◌, ℕ, zero, suc, le_refl, List, [], ◌∷◌, map, Option, None, Some, Result, Ok, Err, refl, sym, ap, ◌∙◌}
 use Rattle.rd_value.specs.declared.value.ErrorValue.{ErrorValue}
 use Rattle.rd_value.specs.declared.value.FileValue.{FileValue}
 use Rattle.rd_value.specs.declared.value.Datum.{Datum}
 use Rattle.rd_value.specs.declared.expr.Lazy.{Lazy, out-Lazy}
-use Rattle.rd_value.specs.declared.expr.Lazy.TheVariants as lazy
 use Rattle.rd_value.specs.declared.expr.Lazy.TheOpen.{Lazy-F}
 use Rattle.rd_value.specs.Bind.{bind}
 use Rattle.rd_value.specs.Model.{ModelValue, ModelExpr, file_of}
@@ -13,15 +12,15 @@ use Rattle.rd_value.proofs.Erased.{repr_with_files}
 use Rattle.rd_value.proofs.ErasedBind.{bind_with_files}
 use Rattle.rd_tree.specs.declared.tree.Function.{Function}
 use Rattle.rd_tree.specs.declared.tree.Module.{Module}
-use Rattle.rd_program.specs.Program.{find_task, signature_of, body}
+use Rattle.rd_registry.specs.Bodies.{find_task, signature_of, body}
 use Rattle.rd_top.specs.Fits.{FreshGives}
 use Rattle.rd_top.specs.Fresh as fresh
 use Rattle.rd_top.specs.Fresh.{Answer, Gives, Failed, Deep, Out, Arguments, answer_map, failing, join, on_answer, then_, gathered, alone, beside, second, paired, parts, seconds, arguments, made, on_body, entered, call, calling, step, at_zero, run, fresh}
 use Rattle.rd_top.specs.Running.{own}
 use Rattle.rd_top.specs.Shown.{line, value_line}
 use Rattle.rd_top.proofs.Deeper.{deeper}
-use Rattle.rd_top.proofs.ErasedLayers.{call_with_files, layer_with, out_with_files_expr, pair_with, kept_list, kept_dict}
-use Rattle.rd_program.proofs.ErasedPrograms.{signature_with_files, body_with_files}
+use Rattle.rd_top.proofs.ErasedLayers.{layer_with, out_with_files_expr, pair_with, kept_list, kept_dict}
+use Rattle.rd_registry.proofs.ErasedModules.{signature_with_files, body_with_files}
 
 join_with : {A B C A' B' C' : Type 0} (f : A → B → C) (g : A' → B' → C') (j : A → A') (k : B → B') (l : C → C') → ((a : A) (b : B) → g (j a) (k b) ≡ l (f a b)) → (a : Answer A) (b : Answer B) → join g (answer_map j a) (answer_map k b) ≡ answer_map l (join f a b)
 join_with f g j k l same (Gives a) (Gives b) = ap Gives (same a b)

@@ -6,7 +6,6 @@ use Rattle.rd_value.specs.declared.value.FileValue.{FileValue}
 use Rattle.rd_value.specs.declared.value.Datum.{Datum}
 use Rattle.rd_value.specs.declared.value.Datum.TheVariants as value
 use Rattle.rd_value.specs.declared.expr.Lazy.{Lazy, out-Lazy}
-use Rattle.rd_value.specs.declared.expr.Lazy.TheVariants as lazy
 use Rattle.rd_value.specs.declared.expr.Lazy.TheOpen.{Lazy-F}
 use Rattle.rd_value.specs.Bind.{bind}
 use Rattle.rd_value.specs.Model.{ModelExpr, file_of}
@@ -15,14 +14,14 @@ use Rattle.rd_value.specs.Erase.{with_files, with_files_key, with_file_expr, wit
 use Rattle.rd_value.proofs.ErasedExprs.{fold_with_files_expr}
 use Rattle.rd_tree.specs.declared.tree.Function.{Function}
 use Rattle.rd_tree.specs.declared.tree.Module.{Module}
-use Rattle.rd_program.specs.Program.{find_task, signature_of, body}
+use Rattle.rd_registry.specs.Bodies.{find_task, signature_of, body}
 use Rattle.rd_top.specs.Fits.{most_nested, most_met, counts, lazies_at, lazies, count_met, Fits}
 use Rattle.rd_top.specs.Fresh as fresh
 use Rattle.rd_top.specs.Fresh.{Event, Answer, Gives, Failed, Deep, Out, Arguments, answer_map, failing, on_answer, then_, gathered, alone, beside, second, parts, seconds, arguments, made, go_on, on_body, visit, entered, call, calling, step, at_zero, run, trace}
 use Rattle.rd_top.specs.Running.{own}
 use Rattle.rd_top.proofs.Evaluated.{count-append, count_under}
 use Rattle.rd_top.proofs.ErasedLayers.{layer_with, out_with_files_expr, pair_with}
-use Rattle.rd_program.proofs.ErasedPrograms.{body_with_files}
+use Rattle.rd_registry.proofs.ErasedModules.{body_with_files}
 use Rattle.rd_top.proofs.Erased.{through, Maps, Evaluators, keyword_with, item_with, arguments_with, items_with, bound_with, parts_with, pairs_with, all_with, run_with, same_erased}
 
 -- what is made of values tells of nothing

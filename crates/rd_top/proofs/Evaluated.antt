@@ -1,6 +1,9 @@
 -- What an evaluator that counts returns, combinator by combinator.
 use Rattle.std.proofs.Common.{◌≡◌, ℕ, suc, ◌+◌, ◌-◌, ◌<◌, ◌≤◌, ◌^◌, inl, inr, List, [], ◌∷◌, ◌++◌, map, Option, None, Some, Result, Ok, Err, refl, sym, ap, ◌∙◌, subst, arith}
-use Rattle.std.specs.Prelude.{min, MatchOption}
+use Rattle.std.specs.Prelude.{length, min, MatchOption}
+use Rattle.std.specs.Arc.{arc_value}
+use Rattle.std.specs.declared.sync.Arc.{Arc}
+use Rattle.std.proofs.lemmas.List.{length-map}
 use denote.Bor.{Bor}
 use Rattle.rd_value.specs.declared.value.ErrorValue.{ErrorValue}
 use Rattle.rd_value.specs.declared.value.FileValue.{FileValue}
@@ -22,18 +25,26 @@ use Rattle.rd_meaning.specs.declared.step.StepError.TheVariants as step_error
 use Rattle.rd_meaning.specs.Step.{failure_in, step_in, ComesTo}
 use Rattle.rd_tree.specs.declared.tree.Function.{Function}
 use Rattle.rd_tree.specs.declared.tree.Module.{Module}
+use Rattle.rd_names.specs.Options.{first_space}
+use Rattle.rd_code.specs.declared.code.TaskCode.{TaskCode}
+use Rattle.rd_body.specs.declared.job.Reduction.{Reduction}
+use Rattle.rd_body.specs.declared.job.Reduction.TheVariants as made_
+use Rattle.rd_body.specs.Code.{meaning}
+use Rattle.rd_body.specs.Jobs.{reduction, outcome as comes_to}
 use Rattle.rd_top.specs.declared.evaluate.Gathered.{Gathered}
 use Rattle.rd_top.specs.declared.evaluate.Gathered.TheVariants as gathered
 use Rattle.rd_top.specs.declared.evaluate.Stop.{Stop}
 use Rattle.rd_top.specs.declared.evaluate.Stop.TheVariants.{TooLarge, OutOfMemory}
-use Rattle.rd_program.specs.declared.program.Task.{Task}
 use Rattle.rd_top.specs.Running.{own}
-use Rattle.rd_program.specs.Program.{find_task, signature_of, body, IsTaskOf}
+use Rattle.rd_registry.specs.Bodies.{find_task, signature_of, body}
+use Rattle.rd_registry.specs.Codes.{parameter_of}
+use Rattle.rd_registry.specs.Registry.{IsCodeOf}
 use Rattle.rd_top.specs.Fresh as fresh
 use Rattle.rd_top.specs.Fresh.{Visit, Event, Bound, Unbound, Met, Answer, Gives, Failed, Deep, Out, Arguments, plain, failing, before, join, both, on_answer, then_, inside, under, event, on_body, visit, entered, call, calling, step, at_zero, run}
 use Rattle.rd_top.specs.Fits.{most_met, lazies, met_in, count_met}
 use Rattle.rd_top.specs.Evaluating.{answer_of, answers_of, IsPast, Evaluates, after, at_depth, step_out, arguments_out, parts_out, seconds_out, values_out, body_out, met_out}
-use Rattle.rd_program.proofs.Programs.{task_parameters}
+use Rattle.rd_names.proofs.Walking.{map_both}
+use Rattle.rd_top.proofs.Bound.{bound_length, found_named, some_same}
 
 pub count-append : {F : Type 0} (es fs : List (Event F)) → count_met (es ++ fs) ≡ count_met es + count_met fs
 unfolding count_met
@@ -280,10 +291,14 @@ bound_err t (Ok y) r g (inr j) e = absurd cc
 bound_err t (Err y) r g (inl i) e = (y, refl, cc)
 bound_err t (Err y) r g (inr j) e = absurd cc
 
+-- the parameters of a task's code
+code_parameters : (m : Module) (f : Function) (code : TaskCode) → IsCodeOf m f code → parameters_of code.signature ≡ signature_of f
+code_parameters m f code u = ap (map (λ p. (p.name, p.default))) u.parameters ∙ map_both (λ p. (p.name, p.default)) parameter_of f.parameters
+
 module _ (m : Module) (k : ℕ) (t : List ℕ) (args : Arguments FileValue) where
   -- what was found of the task
-  abbrev pub IsFound : Option (Bor Task) → Type 0
-  IsFound found = MatchOption found (find_task m t ≡ None) (λ b. (f : Function) × (find_task m t ≡ Some f) × IsTaskOf m f b.now)
+  abbrev pub IsFound : {A : Type 0} → Option (Bor (Arc TaskCode A)) → Type 0
+  IsFound found = MatchOption found (find_task m t ≡ None) (λ b. (f : Function) × (find_task m t ≡ Some f) × IsCodeOf m f (arc_value b.now))
 
   called : (a c : ℕ) (o : Option Function) (r : Result Outcome Stop) → find_task m t ≡ o → Evaluates answer_of (call own m (at_depth m k) t o args) a c r → Evaluates answer_of (values_out m k t args) a c r
   unfolding values_out
@@ -293,54 +308,82 @@ module _ (m : Module) (k : ℕ) (t : List ℕ) (args : Arguments FileValue) wher
   unfolding count_met
   unbound a g h l same = evaluates_before answer_of (event (Unbound t) ∷ []) (failing h) a a a (Ok (outcome.Failed g)) (omega arith) (plain_ok answer_of (Failed h) a (outcome.Failed g) l (ap Failed (sym same)))
 
-  pub enter_none : (a : ℕ) (found : Option (Bor Task)) (g : Failure) → a ≤ most_met → IsFound found → found ≡ None → g ≡ failure_in [] (raised NameError t) → Evaluates answer_of (values_out m k t args) a a (Ok (outcome.Failed g))
-  enter_none a found g l is none same = called a a None (Ok (outcome.Failed g)) (subst IsFound none is) (unbound a g (failure_in [] (raised NameError t)) l same)
+  pub enter_none : {A : Type 0} (a : ℕ) (found : Option (Bor (Arc TaskCode A))) (g : Failure) → a ≤ most_met → IsFound found → found ≡ None → g ≡ failure_in [] (raised NameError t) → Evaluates answer_of (values_out m k t args) a a (Ok (outcome.Failed g))
+  enter_none {A} a found g l is none same = called a a None (Ok (outcome.Failed g)) (subst (IsFound {A = A}) none is) (unbound a g (failure_in [] (raised NameError t)) l same)
 
-  module _ (found : Option (Bor Task)) (b : Bor Task) (is : IsFound found) (some : found ≡ Some b) (q : Result (List (Datum FileValue)) StepError) (comes : ComesTo q (step_in t (bind own (parameters_of b.now.signature) args.0 args.1))) where
-    there : (f : Function) × (find_task m t ≡ Some f) × IsTaskOf m f b.now
-    there = subst IsFound some is
+  module _ {A : Type 0} (found : Option (Bor (Arc TaskCode A))) (b : Bor (Arc TaskCode A)) (is : IsFound found) (some : found ≡ Some b) (d : TaskCode) (d_is : d ≡ arc_value b.now) (s : List ℕ) (s_is : s ≡ t) (q : Result (List (Datum FileValue)) StepError)
+      (comes : ComesTo q (step_in s (bind own (parameters_of d.signature) args.0 args.1))) where
+    there : (f : Function) × (find_task m t ≡ Some f) × IsCodeOf m f (arc_value b.now)
+    there = subst (IsFound {A = A}) some is
+
+    -- the code has the full name that was asked for
+    its_name : (arc_value b.now).full_name ≡ t
+    its_name = some_same _ _ (sym there.2.full_name ∙ found_named (first_space m.namespaces) m.functions t there.0 there.1)
 
     bound : Result (List (Datum FileValue)) ErrorValue
     bound = bind own (signature_of there.0) args.0 args.1
 
-    same_bound : bind own (parameters_of b.now.signature) args.0 args.1 ≡ bound
+    same_bound : bind own (parameters_of d.signature) args.0 args.1 ≡ bound
     unfolding bound
-    same_bound = ap (λ ps. bind own ps args.0 args.1) (task_parameters m there.0 b.now there.2)
+    same_bound = ap (λ ps. bind own ps args.0 args.1) (ap (λ (c : TaskCode). parameters_of c.signature) d_is ∙ code_parameters m there.0 (arc_value b.now) there.2)
 
     entered_by : (a c : ℕ) (x : Result (List (Datum FileValue)) ErrorValue) (r : Result Outcome Stop) → bound ≡ x → Evaluates answer_of (entered own m (at_depth m k) t there.0 x) a c r → Evaluates answer_of (values_out m k t args) a c r
     unfolding bound
     entered_by a c x r same h = called a c (Some there.0) r there.1 (subst (λ y. Evaluates answer_of (entered own m (at_depth m k) t there.0 y) a c r) (sym same) h)
 
-    pub enter_bound : (a c : ℕ) (vs : List (Datum FileValue)) (r : Result Outcome Stop) → q ≡ Ok vs → ((f : Function) → IsTaskOf m f b.now → Evaluates answer_of (body_out m k t f vs) a c r) → Evaluates answer_of (values_out m k t args) a c r
+    pub enter_bound : (a c : ℕ) (vs : List (Datum FileValue)) (r : Result Outcome Stop) → q ≡ Ok vs → ((f : Function) → IsCodeOf m f (arc_value b.now) → Evaluates answer_of (body_out m k (arc_value b.now).full_name f vs) a c r) → Evaluates answer_of (values_out m k t args) a c r
     unfolding body_out
-    enter_bound a c vs r ok h = entered_by a c (Ok vs) r (sym same_bound ∙ bound_ok t _ q vs comes ok) (h there.0 there.2)
+    enter_bound a c vs r ok h = entered_by a c (Ok vs) r (sym same_bound ∙ bound_ok s _ q vs comes ok) (subst (λ (name : List ℕ). Evaluates answer_of (entered own m (at_depth m k) name there.0 (Ok vs)) a c r) its_name (h there.0 there.2))
+
+    pub one_each : (vs : List (Datum FileValue)) → q ≡ Ok vs → length vs ≡ length (arc_value b.now).signature.parameters
+    one_each vs ok =
+        bound_length own (parameters_of d.signature) args.0 args.1 vs (bound_ok s _ q vs comes ok)
+        ∙ length-map d.signature.parameters (λ p. (p.name, p.default)) ∙ ap (λ (c : TaskCode). length c.signature.parameters) d_is
 
     pub enter_unbound : (a : ℕ) (g : Failure) → a ≤ most_met → q ≡ Err (step_error.Failed g) → Evaluates answer_of (values_out m k t args) a a (Ok (outcome.Failed g))
     enter_unbound a g l err =
-        let e = bound_err t (bind own (parameters_of b.now.signature) args.0 args.1) q g comes err in
-        entered_by a a (Err e.0) (Ok (outcome.Failed g)) (sym same_bound ∙ e.1) (unbound a g (failure_in t e.0) l e.2)
+        let e = bound_err s (bind own (parameters_of d.signature) args.0 args.1) q g comes err in
+        entered_by a a (Err e.0) (Ok (outcome.Failed g)) (sym same_bound ∙ e.1) (unbound a g (failure_in t e.0) l (e.2 ∙ ap (λ origin. failure_in origin e.0) s_is))
 
-pub ruleset enter_rules = (enter_none, enter_bound, enter_unbound, no_memory)
+pub ruleset enter_rules = (enter_none, enter_bound, enter_unbound, one_each, no_memory)
 
--- ---- a bound call, from what its body comes to
+-- ---- a bound call, from what its code comes to
 
-module _ (m : Module) (k : ℕ) (t : List ℕ) (f : Function) (args : List (Datum FileValue)) where
-  body_any : (a c : ℕ) (r : Result Outcome Stop) → Evaluates answer_of (on_body (at_depth m k) t (body own m f args)) a c r → Evaluates answer_of (body_out m k t f args) a c r
+-- of what a reduction was made
+is_expr : (origin : List ℕ) (q : Result (Lazy FileValue) ErrorValue) (e : Lazy FileValue) → made_.Expr e ≡ reduction origin q → q ≡ Ok e
+is_expr origin (Ok y) e is = cc
+is_expr origin (Err y) e is = absurd cc
+
+is_failed : (origin : List ℕ) (q : Result (Lazy FileValue) ErrorValue) (g : Failure) → made_.Failed g ≡ reduction origin q → (e : ErrorValue) × (q ≡ Err e) × (g ≡ failure_in origin e)
+is_failed origin (Ok y) g is = absurd cc
+is_failed origin (Err y) g is = (y, refl, cc)
+
+module _ (m : Module) (k : ℕ) (code d : TaskCode) (args given : List (Datum FileValue)) (x : Reduction) where
+  -- the reduction is what this code comes to
+  abbrev Reduces : Type 0
+  Reduces = (d ≡ code) × (given ≡ args) × (x ≡ comes_to d given)
+
+  of_code : Reduces → x ≡ comes_to code args
+  of_code u = u.2 ∙ ap (λ c. comes_to c given) u.0 ∙ ap (comes_to code) u.1
+
+  -- what the code comes to is what the body comes to
+  from_code : (a c : ℕ) (q : Result (Lazy FileValue) ErrorValue) (r : Result Outcome Stop) → meaning own code args ≡ q → Evaluates answer_of (on_body (at_depth m k) code.full_name q) a c r
+      → (f : Function) → IsCodeOf m f code → Evaluates answer_of (body_out m k code.full_name f args) a c r
   unfolding body_out count_met
-  body_any a c r h =
-      let o = on_body (at_depth m k) t (body own m f args) in
-      evaluates_before answer_of (event (Bound (visit t args)) ∷ []) (inside (visit t args) o) a a c r (omega arith) (evaluates_inside answer_of (visit t args) o a c r h)
+  from_code a c q r is h f u =
+      let v = visit code.full_name args in
+      let o = on_body (at_depth m k) code.full_name (body own m f args) in
+      evaluates_before answer_of (event (Bound v) ∷ []) (inside v o) a a c r (omega arith)
+      (evaluates_inside answer_of v o a c r (subst (λ p. Evaluates answer_of (on_body (at_depth m k) code.full_name p) a c r) (sym is ∙ u.means args) h))
 
-  -- what the body came to
-  on_result : (a c : ℕ) (x : Result (Lazy FileValue) ErrorValue) (r : Result Outcome Stop) → x ≡ body own m f args → Evaluates answer_of (on_body (at_depth m k) t x) a c r → Evaluates answer_of (body_out m k t f args) a c r
-  on_result a c x r is h = body_any a c r (subst (λ q. Evaluates answer_of (on_body (at_depth m k) t q) a c r) is h)
-
-  pub body_gives : (a c : ℕ) (x : Result (Lazy FileValue) ErrorValue) (e : Lazy FileValue) (r : Result Outcome Stop) → x ≡ body own m f args → x ≡ Ok e → Evaluates answer_of (met_out m k e) a c r → Evaluates answer_of (body_out m k t f args) a c r
+  pub body_gives : (a c : ℕ) (e : Lazy FileValue) (r : Result Outcome Stop) → Reduces → x ≡ made_.Expr e → Evaluates answer_of (met_out m k e) a c r → (f : Function) → IsCodeOf m f code → Evaluates answer_of (body_out m k code.full_name f args) a c r
   unfolding met_out
-  body_gives a c x e r is gives h = on_result a c (Ok e) r (sym gives ∙ is) h
+  body_gives a c e r u gives h = from_code a c (Ok e) r (is_expr code.full_name (meaning own code args) e (sym gives ∙ of_code u)) h
 
-  pub body_fails : (a : ℕ) (x : Result (Lazy FileValue) ErrorValue) (e : ErrorValue) (g : Failure) → a ≤ most_met → x ≡ body own m f args → x ≡ Err e → g ≡ failure_in t e → Evaluates answer_of (body_out m k t f args) a a (Ok (outcome.Failed g))
-  body_fails a x e g l is fails same = on_result a a (Err e) (Ok (outcome.Failed g)) (sym fails ∙ is) (plain_ok answer_of (Failed (failure_in t e)) a (outcome.Failed g) l (ap Failed (sym same)))
+  pub body_fails : (a : ℕ) (h g : Failure) → a ≤ most_met → Reduces → x ≡ made_.Failed h → g ≡ h → (f : Function) → IsCodeOf m f code → Evaluates answer_of (body_out m k code.full_name f args) a a (Ok (outcome.Failed g))
+  body_fails a h g l u fails same =
+      let e = is_failed code.full_name (meaning own code args) h (sym fails ∙ of_code u) in
+      from_code a a (Err e.0) (Ok (outcome.Failed g)) e.1 (plain_ok answer_of (Failed (failure_in code.full_name e.0)) a (outcome.Failed g) l (ap Failed (sym (same ∙ e.2))))
 
 pub ruleset body_rules = (body_gives, body_fails, no_memory)
 

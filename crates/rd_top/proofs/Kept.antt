@@ -9,7 +9,7 @@ use Rattle.rd_value.specs.declared.failure.Failure.{Failure}
 use Rattle.rd_value.specs.Bind.{bind}
 use Rattle.rd_tree.specs.declared.tree.Function.{Function}
 use Rattle.rd_tree.specs.declared.tree.Module.{Module}
-use Rattle.rd_program.specs.Program.{signature_of, body}
+use Rattle.rd_registry.specs.Bodies.{signature_of, body}
 use Rattle.rd_top.specs.Fresh as fresh
 use Rattle.rd_top.specs.Fresh.{Visit, Bound, Met, Event, Out, Arguments, failing, before, both, then_, event, inside, gathered, alone, beside, second, paired, parts, seconds, arguments, go_on, on_body, visit, entered, call, step}
 

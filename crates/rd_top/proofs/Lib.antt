@@ -1,5 +1,6 @@
 pub mod Answering
 pub mod Asked
+pub mod Bound
 pub mod Deeper
 pub mod Erased
 pub mod ErasedCounts

@@ -9,9 +9,9 @@ use Rattle.rd_tree.specs.declared.tree.Module.{Module}
 use Rattle.rd_parse.specs.Modules.{IsModule}
 use Rattle.rd_parse.specs.Refusals.{RefusedAt}
 use Rattle.rd_parse.proofs.WholeTexts as texts
-use Rattle.rd_registry.specs.declared.refusal.Refusal.{Refusal}
-use Rattle.rd_registry.specs.Refusals.{IsFirst}
-use Rattle.rd_registry.specs.Names.{KeepsNames, refusals}
+use Rattle.rd_names.specs.declared.refusal.Refusal.{Refusal}
+use Rattle.rd_names.specs.Refusals.{IsFirst}
+use Rattle.rd_names.specs.Names.{KeepsNames, refusals}
 use Rattle.rd_top.specs.Source.{IsSource, IsWorkflow, IsRefused, refusal_of}
 
 -- an error that only memory explains explains any value

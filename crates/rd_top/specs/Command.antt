@@ -7,7 +7,7 @@ use Rattle.rd_value.specs.declared.value.Datum.{Datum}
 use Rattle.rd_value.specs.declared.value.Datum.TheVariants as value
 use Rattle.rd_value.specs.Limits.{is_within}
 use Rattle.rd_parse.specs.Literals.{Spells}
-use Rattle.rd_registry.specs.Spelling.{is_name}
+use Rattle.rd_names.specs.Spelling.{is_name}
 
 -- A word that is no option: a dash by itself, or what doesn't begin with one.
 abbrev pub IsOperand : List ℕ → Type 0

@@ -14,7 +14,7 @@ use Rattle.rd_value.specs.Raise.{raised}
 use Rattle.rd_meaning.specs.Step.{failure_in}
 use Rattle.rd_tree.specs.declared.tree.Function.{Function}
 use Rattle.rd_tree.specs.declared.tree.Module.{Module}
-use Rattle.rd_program.specs.Program.{find_task, signature_of, body}
+use Rattle.rd_registry.specs.Bodies.{find_task, signature_of, body}
 
 -- a task with its bound arguments
 pub record Visit (F : Type 0) : Type 0 where

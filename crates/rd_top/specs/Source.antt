@@ -1,5 +1,5 @@
 -- Whole sources.
-use Rattle.std.specs.Prelude.{◌≡◌, ◌⊎◌, ℕ, List, Option, None, Some}
+use Rattle.std.specs.Prelude.{◌≡◌, ◌⊎◌, ℕ, List, Option, None, Some, Result, Ok, Err}
 use Rattle.rd_syntax.specs.declared.source.SourceError.{SourceError}
 use Rattle.rd_syntax.specs.declared.source.SourceError.TheVariants as err
 use Rattle.rd_syntax.specs.declared.token.Token.{Token}
@@ -7,9 +7,10 @@ use Rattle.rd_syntax.specs.Sources.{Lexes, Refuses}
 use Rattle.rd_tree.specs.declared.tree.Module.{Module}
 use Rattle.rd_parse.specs.Modules.{IsModule}
 use Rattle.rd_parse.specs.Refusals.{RefusedAt}
-use Rattle.rd_registry.specs.declared.refusal.Refusal.{Refusal}
-use Rattle.rd_registry.specs.Refusals.{IsFirst}
-use Rattle.rd_registry.specs.Names.{KeepsNames, refusals}
+use Rattle.rd_names.specs.declared.refusal.Refusal.{Refusal}
+use Rattle.rd_names.specs.Refusals.{IsFirst}
+use Rattle.rd_names.specs.Names.{KeepsNames, refusals}
+use Rattle.rd_top.specs.declared.source.Workflow.{Workflow}
 
 -- The bytes are a source of the module: they have tokens, and these spell it.
 pub record IsSource (source : List ℕ) (m : Module) : Type 0 where
@@ -39,3 +40,8 @@ pub record IsRefused (source : List ℕ) (line : ℕ) : Type 0 where
 abbrev pub refusal_of : Option Refusal → SourceError
 refusal_of None = err.OutOfMemory
 refusal_of (Some r) = err.Refused r.line
+
+-- the module of what was read
+abbrev pub tree_read : Result Workflow SourceError → Result Module SourceError
+tree_read (Ok w) = Ok w.tree
+tree_read (Err e) = Err e

@@ -4,7 +4,7 @@ use Rattle.std.specs.Option.{option_map}
 use Rattle.std.specs.Str.{bytes_eq}
 use Rattle.rd_tree.specs.declared.tree.Function.{Function}
 use Rattle.rd_tree.specs.declared.tree.Module.{Module}
-use Rattle.rd_registry.specs.Options.{full_name, first_space, or_else}
+use Rattle.rd_names.specs.Options.{full_name, first_space, or_else}
 
 -- the full name of a task of a namespace; a helper has none
 abbrev pub full_of : Option (List ℕ) → Function → Option (List ℕ)

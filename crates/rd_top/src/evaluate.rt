@@ -1,6 +1,7 @@
 //! Fresh evaluation by plain recursion, within its limits.
 
-ghost use Rattle.std.specs.Prelude.{◌≡◌, ◌≢◌, ◌≤◌, ℕ, List, [], IfOk, OnOk, Err};
+ghost use Rattle.std.specs.Prelude.{◌≡◌, ◌≢◌, ◌≤◌, ℕ, List, [], IfOk, OnOk, Err, length};
+ghost use Rattle.std.specs.Arc.{arc_value};
 ghost use Rattle.rd_value.specs.declared.class.Class.TheVariants as class;
 ghost use Rattle.rd_value.specs.declared.value.FileValue.{FileValue};
 ghost use Rattle.rd_value.specs.declared.value.Datum.{Datum};
@@ -13,13 +14,15 @@ ghost use Rattle.rd_tree.specs.declared.tree.Module.{Module};
 ghost use Rattle.rd_top.specs.Fits as fits;
 ghost use Rattle.rd_top.specs.Fresh as fresh;
 ghost use Rattle.rd_top.specs.Evaluating.{Evaluates, answer_of, answers_of, ahead, in_front, after, at_depth, step_out, arguments_out, parts_out, seconds_out, values_out, body_out, met_out};
-ghost use Rattle.rd_program.specs.Program.{Prepares, IsTaskOf};
+ghost use Rattle.rd_registry.specs.Registry.{IsCodeOf, Registers};
 ghost use Rattle.rd_top.specs.Running.{own};
 
 use crate::lazies::lazies;
 use rd_base::{Copies, Items, OutOfMemory, Text};
+use rd_body::{BodyJob, Finished, Reduction, run_body};
+use rd_code::TaskCode;
 use rd_meaning::{NamedValues, StepError, bind};
-use rd_program::{Program, Task, prepare};
+use rd_registry::Registry;
 use rd_tree::Module;
 use rd_value::class::Class;
 use rd_value::expr::Expr;
@@ -28,6 +31,7 @@ use rd_value::limits::kept;
 use rd_value::raise::raised;
 use rd_value::value::{ErrorValue, Pairs, Value, Values};
 use std::alloc::Global;
+use std::sync::Arc;
 
 /// The most nested expressions.
 pub const MOST_NESTED: u32 = 200;
@@ -63,21 +67,14 @@ pub enum Gathered<T> {
 /// Arguments by position, and by keyword.
 type Arguments = (Values, NamedValues);
 
-fn in_task(alloc: Global, task: &Text, error: ErrorValue) -> Result<Failure, OutOfMemory>
-    ensures { IfOk result (λ f. f ≡ failure_in task.now error) }
+fn in_no_task(alloc: Global, error: ErrorValue) -> Result<Failure, OutOfMemory>
+    ensures { IfOk result (λ f. f ≡ failure_in [] error) }
 {
     Ok(Failure {
         class: error.class,
         text: error.text,
-        origin: task.copy(alloc)?,
+        origin: Text::from_str(alloc, "")?,
     })
-}
-
-fn in_no_task(alloc: Global, error: ErrorValue) -> Result<Failure, OutOfMemory>
-    ensures { IfOk result (λ f. f ≡ failure_in [] error) }
-{
-    let origin = Text::from_str(alloc, "")?;
-    in_task(alloc, &origin, error)
 }
 
 fn no_task(alloc: Global, task: &Text) -> Result<Failure, OutOfMemory>
@@ -152,12 +149,26 @@ fn paired(values: Gathered<Values>, named: Gathered<NamedValues>) -> Gathered<Ar
     }
 }
 
+/// Runs the body of a task on its bound arguments.
+fn ran(alloc: Global, code: &Arc<TaskCode, Global>, args: Values) -> Result<Finished, OutOfMemory>
+    requires { length args ≡ length (arc_value code.now).signature.parameters }
+    ensures code { IfOk result (λ finished. arc_value finished.job.code ≡ arc_value code.now) }
+    ensures args { IfOk result (λ finished. finished.job.args ≡ args) }
+{
+    let job = BodyJob {
+        number: 0,
+        code: code.clone()?,
+        args,
+    };
+    run_body(alloc, job)
+}
+
 /// Evaluates over the tasks of a module.
 #[derive(Clone, Copy)]
 pub struct Evaluation<'m> {
     alloc: Global,
     tasks: &'m Module,
-    program: &'m Program,
+    registry: &'m Registry,
 }
 
 impl<'m> Evaluation<'m> {
@@ -165,7 +176,7 @@ impl<'m> Evaluation<'m> {
     #[cycle(evaluate)]
     #[tactic(auto, using(crate::proofs::Evaluated::expression_rules))]
     fn expression(&self, depth: u32, expr: &Expr, met: &mut u32) -> Result<Outcome, Stop>
-        requires prepared { Prepares self.now.tasks.now self.now.program.now }
+        requires registered { Registers self.now.tasks.now self.now.registry.now }
         requires few { met.old ≤ fits.most_met }
         ensures gives { Evaluates answer_of (at_depth self.now.tasks.now depth expr.now) met.old met.new result }
         ensures room { met.new ≤ fits.most_met }
@@ -191,7 +202,7 @@ impl<'m> Evaluation<'m> {
     #[cycle(evaluate)]
     #[tactic(auto, using(crate::proofs::Evaluated::step_rules))]
     fn step(&self, depth: u32, expr: &Expr, met: &mut u32) -> Result<Outcome, Stop>
-        requires prepared { Prepares self.now.tasks.now self.now.program.now }
+        requires registered { Registers self.now.tasks.now self.now.registry.now }
         requires few { met.old ≤ fits.most_met }
         ensures gives { Evaluates answer_of (step_out self.now.tasks.now depth expr.now) met.old met.new result }
         ensures room { met.new ≤ fits.most_met }
@@ -220,7 +231,7 @@ impl<'m> Evaluation<'m> {
         keywords: &[(Text, Expr)],
         met: &mut u32,
     ) -> Result<Outcome, Stop>
-        requires prepared { Prepares self.now.tasks.now self.now.program.now }
+        requires registered { Registers self.now.tasks.now self.now.registry.now }
         requires few { met.old ≤ fits.most_met }
         ensures gives { Evaluates answer_of (after (arguments_out self.now.tasks.now depth positional.now keywords.now) (values_out self.now.tasks.now depth task.now)) met.old met.new result }
         ensures room { met.new ≤ fits.most_met }
@@ -236,7 +247,7 @@ impl<'m> Evaluation<'m> {
     #[cycle(evaluate)]
     #[tactic(auto, using(crate::proofs::Evaluated::after_rules))]
     fn list(&self, depth: u32, parts: &[Expr], met: &mut u32) -> Result<Outcome, Stop>
-        requires prepared { Prepares self.now.tasks.now self.now.program.now }
+        requires registered { Registers self.now.tasks.now self.now.registry.now }
         requires few { met.old ≤ fits.most_met }
         ensures gives { Evaluates answer_of (after (parts_out self.now.tasks.now depth parts.now) (fresh.listed own)) met.old met.new result }
         ensures room { met.new ≤ fits.most_met }
@@ -252,7 +263,7 @@ impl<'m> Evaluation<'m> {
     #[cycle(evaluate)]
     #[tactic(auto, using(crate::proofs::Evaluated::after_rules))]
     fn dict(&self, depth: u32, pairs: &[(Value, Expr)], met: &mut u32) -> Result<Outcome, Stop>
-        requires prepared { Prepares self.now.tasks.now self.now.program.now }
+        requires registered { Registers self.now.tasks.now self.now.registry.now }
         requires few { met.old ≤ fits.most_met }
         ensures gives { Evaluates answer_of (after (seconds_out self.now.tasks.now depth pairs.now) (fresh.keyed own)) met.old met.new result }
         ensures room { met.new ≤ fits.most_met }
@@ -274,22 +285,22 @@ impl<'m> Evaluation<'m> {
         arguments: &Arguments,
         met: &mut u32,
     ) -> Result<Outcome, Stop>
-        requires prepared { Prepares self.now.tasks.now self.now.program.now }
+        requires registered { Registers self.now.tasks.now self.now.registry.now }
         requires few { met.old ≤ fits.most_met }
         ensures gives { Evaluates answer_of (values_out self.now.tasks.now depth task.now arguments.now) met.old met.new result }
         ensures room { met.new ≤ fits.most_met }
     {
-        match self.program.find(task) {
+        match self.registry.code(task) {
             None => Ok(Outcome::Failed(no_task(self.alloc, task)?)),
-            Some(found) => {
+            Some(code) => {
                 match bind(
                     self.alloc,
                     task.as_str(),
-                    &found.signature,
+                    &code.signature,
                     &arguments.0,
                     &arguments.1,
                 ) {
-                    Ok(values) => self.body(depth, task, found, &values, met),
+                    Ok(values) => self.body(depth, code, values, met),
                     Err(StepError::Failed(failure)) => Ok(Outcome::Failed(failure)),
                     Err(StepError::OutOfMemory) => Err(Stop::OutOfMemory),
                 }
@@ -303,19 +314,20 @@ impl<'m> Evaluation<'m> {
     fn body(
         &self,
         depth: u32,
-        task: &Text,
-        found: &Task,
-        arguments: &Values,
+        code: &Arc<TaskCode, Global>,
+        arguments: Values,
         met: &mut u32,
     ) -> Result<Outcome, Stop>
-        requires prepared { Prepares self.now.tasks.now self.now.program.now }
+        requires registered { Registers self.now.tasks.now self.now.registry.now }
         requires few { met.old ≤ fits.most_met }
-        ensures gives { (f : Function) → IsTaskOf self.now.tasks.now f found.now → Evaluates answer_of (body_out self.now.tasks.now depth task.now f arguments.now) met.old met.new result }
+        requires one_each { length arguments ≡ length (arc_value code.now).signature.parameters }
+        ensures gives { (f : Function) → IsCodeOf self.now.tasks.now f (arc_value code.now) → Evaluates answer_of (body_out self.now.tasks.now depth (arc_value code.now).full_name f arguments) met.old met.new result }
         ensures room { met.new ≤ fits.most_met }
     {
-        match self.program.run(self.alloc, found, arguments.as_slice())? {
-            Ok(expr) => self.go_on(depth, &expr, met),
-            Err(error) => Ok(Outcome::Failed(in_task(self.alloc, task, error)?)),
+        let finished = ran(self.alloc, code, arguments)?;
+        match finished.reduction() {
+            Reduction::Expr(expr) => self.go_on(depth, expr, met),
+            Reduction::Failed(failure) => Ok(Outcome::Failed(failure.copy(self.alloc)?)),
         }
     }
 
@@ -323,7 +335,7 @@ impl<'m> Evaluation<'m> {
     #[cycle(evaluate)]
     #[tactic(auto, using(crate::proofs::Evaluated::met_rules))]
     fn go_on(&self, depth: u32, expr: &Expr, met: &mut u32) -> Result<Outcome, Stop>
-        requires prepared { Prepares self.now.tasks.now self.now.program.now }
+        requires registered { Registers self.now.tasks.now self.now.registry.now }
         requires few { met.old ≤ fits.most_met }
         ensures gives { Evaluates answer_of (met_out self.now.tasks.now depth expr.now) met.old met.new result }
         ensures room { met.new ≤ fits.most_met }
@@ -346,7 +358,7 @@ impl<'m> Evaluation<'m> {
         keywords: &[(Text, Expr)],
         met: &mut u32,
     ) -> Result<Gathered<Arguments>, Stop>
-        requires prepared { Prepares self.now.tasks.now self.now.program.now }
+        requires registered { Registers self.now.tasks.now self.now.registry.now }
         requires few { met.old ≤ fits.most_met }
         ensures gives { Evaluates answers_of (arguments_out self.now.tasks.now depth positional.now keywords.now) met.old met.new result }
         ensures room { met.new ≤ fits.most_met }
@@ -363,7 +375,7 @@ impl<'m> Evaluation<'m> {
     /// All parts from the left, also behind one that fails.
     #[cycle(evaluate)]
     fn parts(&self, depth: u32, parts: &[Expr], met: &mut u32) -> Result<Gathered<Values>, Stop>
-        requires prepared { Prepares self.now.tasks.now self.now.program.now }
+        requires registered { Registers self.now.tasks.now self.now.registry.now }
         requires few { met.old ≤ fits.most_met }
         ensures gives { Evaluates answers_of (parts_out self.now.tasks.now depth parts.now) met.old met.new result }
         ensures room { met.new ≤ fits.most_met }
@@ -386,7 +398,7 @@ impl<'m> Evaluation<'m> {
         keywords: &[(Text, Expr)],
         met: &mut u32,
     ) -> Result<Gathered<NamedValues>, Stop>
-        requires prepared { Prepares self.now.tasks.now self.now.program.now }
+        requires registered { Registers self.now.tasks.now self.now.registry.now }
         requires few { met.old ≤ fits.most_met }
         ensures gives { Evaluates answers_of (seconds_out self.now.tasks.now depth keywords.now) met.old met.new result }
         ensures room { met.new ≤ fits.most_met }
@@ -409,7 +421,7 @@ impl<'m> Evaluation<'m> {
         pairs: &[(Value, Expr)],
         met: &mut u32,
     ) -> Result<Gathered<Pairs>, Stop>
-        requires prepared { Prepares self.now.tasks.now self.now.program.now }
+        requires registered { Registers self.now.tasks.now self.now.registry.now }
         requires few { met.old ≤ fits.most_met }
         ensures gives { Evaluates answers_of (seconds_out self.now.tasks.now depth pairs.now) met.old met.new result }
         ensures room { met.new ≤ fits.most_met }
@@ -426,16 +438,21 @@ impl<'m> Evaluation<'m> {
 }
 
 /// What fresh evaluation of an expression gives, where the evaluation fits.
-pub fn evaluate(alloc: Global, module: &Module, expr: &Expr) -> Result<Outcome, Stop>
+pub fn evaluate(
+    alloc: Global,
+    module: &Module,
+    registry: &Registry,
+    expr: &Expr,
+) -> Result<Outcome, Stop>
+    requires { Registers «module».now registry.now }
     ensures fits { OnOk result (fits.Fits own «module».now expr.now) }
     ensures gives { IfOk result (λ outcome. fits.FreshGives own «module».now expr.now (answer_of outcome)) }
     ensures too_large { result ≡ Err Stop.TooLarge → fits.Fits own «module».now expr.now → ⊥ }
 {
-    let program = prepare(alloc, module)?;
     let evaluation = Evaluation {
         alloc,
         tasks: module,
-        program: &program,
+        registry,
     };
     let mut met = 0;
     match evaluation.go_on(MOST_NESTED, expr, &mut met) {

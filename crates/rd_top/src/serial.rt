@@ -6,6 +6,7 @@ ghost use Rattle.rd_base.specs.Causes.{Rose};
 ghost use Rattle.rd_value.specs.Repr.{repr};
 ghost use Rattle.rd_value.specs.declared.value.Datum.TheVariants.{Int};
 ghost use Rattle.rd_value.specs.declared.expr.Lazy.TheVariants.{Val};
+ghost use Rattle.rd_registry.specs.Registry.{Registers};
 ghost use Rattle.rd_top.specs.Running.{own};
 ghost use Rattle.rd_top.specs.declared.serial.Ending.TheVariants.{SourceRefused};
 ghost use Rattle.rd_top.specs.Arguments.{HoldNoFiles};
@@ -21,6 +22,7 @@ use crate::shown::{push_failure, push_value};
 use crate::source::read_source;
 use crate::tasks::find_word;
 use rd_base::{Copies, Items, OutOfMemory, Sink, SinkFailed, Status, Text};
+use rd_registry::Registry;
 use rd_syntax::SourceError;
 use rd_tree::Module;
 use rd_value::expr::{Expr, NamedExprs};
@@ -56,10 +58,12 @@ fn root_arguments(alloc: Global, arguments: &[(Text, Value)]) -> Result<NamedExp
 fn run_task(
     alloc: Global,
     module: &Module,
+    registry: &Registry,
     word: &Text,
     arguments: &[(Text, Value)],
 ) -> Result<Ending, OutOfMemory>
-    requires { HoldNoFiles arguments.now }
+    requires registered { Registers «module».now registry.now }
+    requires no_files { HoldNoFiles arguments.now }
     ensures { IfOk result (OfModule «module».now word.now arguments.now) }
 {
     let Some(task) = find_word(alloc, module, word)? else {
@@ -73,7 +77,7 @@ fn run_task(
     if !root.within() {
         return Ok(Ending::WordsRefused);
     }
-    match evaluate(alloc, module, &root) {
+    match evaluate(alloc, module, registry, &root) {
         Ok(outcome) => Ok(Ending::Outcome(outcome)),
         Err(Stop::TooLarge) => Ok(Ending::TooLarge),
         Err(Stop::OutOfMemory) => Err(OutOfMemory),
@@ -90,7 +94,7 @@ fn run_source(
     ensures { IfOk result (OfText source.now word.now arguments.now) }
 {
     match read_source(alloc, source) {
-        Ok(module) => run_task(alloc, &module, word, arguments),
+        Ok(workflow) => run_task(alloc, &workflow.tree, &workflow.registry, word, arguments),
         Err(SourceError::Refused { line }) => Ok(Ending::SourceRefused(line)),
         Err(SourceError::OutOfMemory) => Err(OutOfMemory),
     }

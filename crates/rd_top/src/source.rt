@@ -3,14 +3,23 @@
 ghost use Rattle.std.specs.Prelude.{◌≡◌, ℕ, List, IfOk};
 ghost use Rattle.rd_syntax.specs.Sources.{IfRefused, IsOrMemory};
 ghost use Rattle.rd_tree.specs.declared.tree.Module.{Module};
-ghost use Rattle.rd_registry.specs.Refusals.{told};
-ghost use Rattle.rd_top.specs.Source.{IsRefused, IsWorkflow, refusal_of};
+ghost use Rattle.rd_names.specs.Refusals.{told};
+ghost use Rattle.rd_registry.specs.Registry.{Registers};
+ghost use Rattle.rd_top.specs.Source.{IsRefused, IsWorkflow, refusal_of, tree_read};
 
+use rd_names::RegisterError;
 use rd_parse::parse;
-use rd_registry::{RegisterError, check_names};
+use rd_registry::{Registry, register};
 use rd_syntax::{SourceError, lex};
 use rd_tree::Module;
 use std::alloc::Global;
+
+/// A module whose names keep the rules, and its tasks.
+#[derive(Drop)]
+pub struct Workflow {
+    pub tree: Module,
+    pub registry: Registry,
+}
 
 /// The refusal for a name, at its line.
 fn refusal(error: RegisterError) -> SourceError
@@ -24,21 +33,24 @@ fn refusal(error: RegisterError) -> SourceError
     }
 }
 
-/// The module of a workflow's source.
-pub fn read_source(alloc: Global, source: &[u8]) -> Result<Module, SourceError>
+/// The workflow of a source.
+pub fn read_source(alloc: Global, source: &[u8]) -> Result<Workflow, SourceError>
     // What is read is the source's module, whose names keep the rules.
-    ensures found { IfOk result (λ m. IsWorkflow source.now m) }
+    ensures found { IfOk result (λ w. IsWorkflow source.now w.tree) }
+
+    // Its tasks are the module's.
+    ensures registered { IfOk result (λ w. Registers w.tree w.registry) }
 
     // A source that has such a module has it read, unless memory runs out.
-    ensures only { (m : Module) → IsWorkflow source.now m → IsOrMemory result m }
+    ensures only { (m : Module) → IsWorkflow source.now m → IsOrMemory (tree_read result) m }
 
     // A refusal is at the line of the tokens, of the grammar or of the names.
     ensures line { IfRefused result (λ line. IsRefused source.now line) }
 {
     let tokens = lex(alloc, source)?;
-    let module = parse(alloc, &tokens)?;
-    match check_names(alloc, &module) {
-        Ok(()) => Ok(module),
+    let tree = parse(alloc, &tokens)?;
+    match register(alloc, &tree) {
+        Ok(registry) => Ok(Workflow { tree, registry }),
         Err(error) => Err(refusal(error)),
     }
 }

@@ -2,11 +2,11 @@
 
 ghost use Rattle.std.specs.Prelude.{◌≡◌, IfOk};
 ghost use Rattle.std.specs.Option.{option_copied};
-ghost use Rattle.rd_registry.specs.Options.{first_space};
+ghost use Rattle.rd_names.specs.Options.{first_space};
 ghost use Rattle.rd_top.specs.Tasks as spec;
 
 use rd_base::{Copies, OutOfMemory, Text};
-use rd_registry::{first_namespace, full_name};
+use rd_names::{first_namespace, full_name};
 use rd_tree::{Function, Module};
 use std::alloc::Global;
 

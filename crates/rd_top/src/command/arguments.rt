@@ -7,8 +7,8 @@ ghost use Rattle.rd_top.specs.Command.{AreArguments, Argument, IsArgument, Means
 use indexmap::IndexSet;
 use rd_base::{Copies, Items, OutOfMemory, Text};
 use rd_meaning::NamedValues;
+use rd_names::is_name;
 use rd_parse::parse_literal;
-use rd_registry::is_name;
 use rd_value::value::Value;
 use std::alloc::Global;
 

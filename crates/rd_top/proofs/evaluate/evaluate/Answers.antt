@@ -7,5 +7,5 @@ returns-in-Ok-clause-fits c = fits_ok c.args.«module».now c.args.expr.now _ _ 
 pub returns-in-Ok-clause-gives : goal.returns-in-Ok-clause-gives
 returns-in-Ok-clause-gives c = gives_ok c.args.«module».now c.args.expr.now _ _ c.in-Ok.ensures.gives
 
-pub returns-clause-too_large : goal.returns-clause-too_large
-returns-clause-too_large c = too_large c.args.«module».now c.args.expr.now _ _ c.in-Err.ensures.gives
+pub returns-in-Err-clause-too_large : goal.returns-in-Err-clause-too_large
+returns-in-Err-clause-too_large c = too_large c.args.«module».now c.args.expr.now _ _ c.in-Err.ensures.gives

@@ -1,16 +1,15 @@
 use Rattle.std.proofs.Common.{ℕ, List, Ok, Err, ap, subst, ◌∙◌, arith}
 use Rattle.std.proofs.lemmas.Result.{err_from_is_err_and}
+use Rattle.std.specs.Arc.{arc_value}
 use Rattle.rd_value.specs.declared.value.FileValue.{FileValue}
 use Rattle.rd_value.specs.declared.value.Datum.{Datum}
 use Rattle.rd_value.specs.declared.failure.Outcome.TheVariants as outcome
-use Rattle.rd_value.specs.Bind.{parameters_of, bind}
-use Rattle.rd_meaning.specs.Step.{step_in, ComesTo}
 use Rattle.rd_top.specs.declared.evaluate.Gathered.{Gathered}
 use Rattle.rd_top.specs.declared.evaluate.Gathered.TheVariants as gathered
 use Rattle.rd_top.specs.Fresh as fresh
 use Rattle.rd_top.specs.Evaluating.{answer_of, answers_of, Evaluates, at_depth, arguments_out, parts_out, seconds_out, values_out}
 use Rattle.rd_top.specs.Running.{own}
-use Rattle.rd_top.proofs.Evaluated.{no_memory, after_all, after_failed, after_list, after_dict, arguments_both, arguments_left, arguments_right, enter_bound, enter_unbound}
+use Rattle.rd_top.proofs.Evaluated.{no_memory, after_all, after_failed, after_list, after_dict, arguments_both, arguments_left, arguments_right, enter_none, one_each, enter_bound, enter_unbound, body_fails}
 use Rattle.rd_top.proofs.Parts.{start, more, stopped, done}
 use Rattle.rd_top.proofs.evaluate.Evaluation.+evaluate.Goals as goal
 
@@ -62,19 +61,40 @@ dict-returns-in-Ok-Failed-clause-gives t c =
     after_failed o (fresh.keyed own) c.args.met.now c.pairs.new.met c.in-Ok-Failed.failure
     (subst (λ (g : Gathered (List (Datum FileValue × Datum FileValue))). Evaluates answers_of o c.args.met.now c.pairs.new.met (Ok g)) c.in-Ok-Failed.field-0-is c.in-Ok-Failed.ensures.gives)
 
+pub enter-body-requires : goal.enter-body-requires
+enter-body-requires t c = (
+  omega arith,
+  (
+    c.requires.registered,
+    (
+      c.requires.few,
+      one_each c.args.self.now.tasks.now c.args.depth c.args.task.now c.args.arguments.now c.code.result c.in-Some.code (c.code.ensures c.args.self.now.tasks.now c.requires.registered) c.in-Some.is c.deref.result.now c.deref.ensures c.as_str.result.now c.as_str.ensures.value c.bind.result c.bind.ensures
+          c.in-Ok.values c.in-Ok.is,
+    ),
+  ),
+)
+
+pub enter-returns-in_ok-no_task-in-None-clause-gives : goal.enter-returns-in_ok-no_task-in-None-clause-gives
+enter-returns-in_ok-no_task-in-None-clause-gives t c =
+    enter_none c.args.self.now.tasks.now c.args.depth c.args.task.now c.args.arguments.now c.args.met.now c.code.result c.in_ok-no_task-in-None.field-0 c.requires.few (c.code.ensures c.args.self.now.tasks.now c.requires.registered) c.in-None.is c.in_ok-no_task-in-None.ensures
+
 pub enter-returns-in-Ok-clause-gives : goal.enter-returns-in-Ok-clause-gives
 enter-returns-in-Ok-clause-gives t c =
-    enter_bound c.args.self.now.tasks.now c.args.depth c.args.task.now c.args.arguments.now c.find.result c.in-Some.found (c.find.ensures c.args.self.now.tasks.now c.requires.prepared) c.in-Some.is c.bind.result
-    (subst (λ (s : List ℕ). ComesTo c.bind.result (step_in s (bind own (parameters_of c.in-Some.found.now.signature) c.args.arguments.now.0 c.args.arguments.now.1))) c.as_str.ensures.value c.bind.ensures)
+    enter_bound c.args.self.now.tasks.now c.args.depth c.args.task.now c.args.arguments.now c.code.result c.in-Some.code (c.code.ensures c.args.self.now.tasks.now c.requires.registered) c.in-Some.is c.deref.result.now c.deref.ensures c.as_str.result.now c.as_str.ensures.value c.bind.result c.bind.ensures
     c.args.met.now c.body.new.met c.in-Ok.values c.body.result c.in-Ok.is c.body.ensures.gives
 
 pub enter-returns-in-Err-Failed-clause-gives : goal.enter-returns-in-Err-Failed-clause-gives
 enter-returns-in-Err-Failed-clause-gives t c =
     let p : Evaluates answer_of (values_out c.args.self.now.tasks.now c.args.depth c.args.task.now c.args.arguments.now) c.args.met.now c.args.met.now (Ok (outcome.Failed c.in-Err-Failed.failure)) =
-    enter_unbound c.args.self.now.tasks.now c.args.depth c.args.task.now c.args.arguments.now c.find.result c.in-Some.found (c.find.ensures c.args.self.now.tasks.now c.requires.prepared) c.in-Some.is c.bind.result
-    (subst (λ (s : List ℕ). ComesTo c.bind.result (step_in s (bind own (parameters_of c.in-Some.found.now.signature) c.args.arguments.now.0 c.args.arguments.now.1))) c.as_str.ensures.value c.bind.ensures)
+    enter_unbound c.args.self.now.tasks.now c.args.depth c.args.task.now c.args.arguments.now c.code.result c.in-Some.code (c.code.ensures c.args.self.now.tasks.now c.requires.registered) c.in-Some.is c.deref.result.now c.deref.ensures c.as_str.result.now c.as_str.ensures.value c.bind.result c.bind.ensures
     c.args.met.now c.in-Err-Failed.failure c.requires.few (c.in-Err-Failed.is ∙ ap Err c.in-Err-Failed.field-0-is) in
     rw c.in-Err-Failed.field-0-is p
+
+pub body-returns-clause-gives : goal.body-returns-clause-gives
+body-returns-clause-gives t c =
+    let job = c.in_ok-finished.finished.job in
+    body_fails c.args.self.now.tasks.now c.args.depth (arc_value c.args.code.now) (arc_value job.code) c.args.arguments job.args c.reduction.result.now c.args.met.now c.in-Failed.failure c.in_ok-copy-in-Failed.field-0
+    c.requires.few (c.in_ok-finished.ensures.code, c.in_ok-finished.ensures.args, c.reduction.ensures) c.in-Failed.is c.in_ok-copy-in-Failed.ensures
 
 pub parts-loop-part-init : goal.parts-loop-part-init
 parts-loop-part-init t c = start fresh.alone (at_depth c.args.self.now.tasks.now c.args.depth) c.args.parts.now c.args.met.now _ c.requires.few (ap gathered.All c.new.ensures)

@@ -1,0 +1,14 @@
+pub mod Blob
+pub mod Records
+pub mod Reader
+pub mod Meaning
+pub mod Values
+pub mod Whole
+pub mod Exprs
+pub mod Proper
+pub mod Form
+pub mod Front
+pub mod Lists
+pub mod RecordReaders
+pub mod ProperRecords
+pub mod Canonical

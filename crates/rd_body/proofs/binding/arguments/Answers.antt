@@ -1,8 +1,0 @@
-use Rattle.std.proofs.Common.{sym, subst}
-use Rattle.rd_body.specs.Running.{Answers}
-use Rattle.rd_body.proofs.Arguments.{bound_by}
-use Rattle.rd_body.proofs.binding.arguments.Goals as goal
-
-pub returns : goal.returns
-returns c =
-    subst (λ a. Answers c.bound.result a) (sym (bound_by c.args.routine.now c.args.positional c.args.keywords)) (rw (c.as_slice.ensures, c.as_slice-2.ensures) at c.bound.ensures)

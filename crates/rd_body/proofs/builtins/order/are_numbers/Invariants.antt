@@ -1,7 +1,0 @@
-use Rattle.std.proofs.Common.{◌≡◌, drop}
-use Rattle.std.specs.List.{list_all}
-use Rattle.rd_body.specs.Builtins.{is_number}
-use Rattle.rd_body.proofs.builtins.order.are_numbers.Given as goal
-
-abbrev pub invariant-loop-value : goal.invariant-loop-value
-invariant-loop-value l = list_all is_number (drop l.value-index l.values) ≡ list_all is_number l.values

@@ -1,9 +1,0 @@
-use Rattle.std.proofs.Common.{[], drop}
-use Rattle.rd_body.specs.Body.{with_pairs}
-use Rattle.rd_body.specs.Running.{own}
-use Rattle.rd_body.proofs.Displays.{Onto}
-use Rattle.rd_value.proofs.Deciding.{value_same, value_decides}
-use Rattle.rd_body.proofs.display.by_key.Given as goal
-
-abbrev pub invariant-loop-shown : goal.invariant-loop-shown
-invariant-loop-shown l = Onto value_same value_decides (drop l.shown-index l.pairs) l.entries.entries (with_pairs own l.pairs [])

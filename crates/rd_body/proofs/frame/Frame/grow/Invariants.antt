@@ -1,9 +1,0 @@
-use Rattle.std.proofs.Common.{◌≡◌, ℕ, suc, ◌-◌, length}
-use Rattle.rd_body.specs.Running.{local}
-use Rattle.rd_body.proofs.frame.Frame.grow.Given as goal
-
-abbrev pub invariant-loop-self : goal.invariant-loop-self
-invariant-loop-self l = (local l.self.locals.items ≡ local l.initial.self.locals.items) × (l.self.left ≡ l.initial.self.left)
-
-abbrev pub decreases-loop-self : goal.decreases-loop-self
-decreases-loop-self l = suc l.slot - length l.self.locals.items

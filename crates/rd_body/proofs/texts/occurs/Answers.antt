@@ -1,5 +1,0 @@
-use Rattle.rd_body.proofs.Occurs.{occurs_is}
-use Rattle.rd_body.proofs.texts.occurs.Goals as goal
-
-pub returns : goal.returns
-returns c = occurs_is _ _ _ c.contains.ensures.cases

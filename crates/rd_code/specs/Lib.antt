@@ -1,0 +1,5 @@
+pub mod Known
+pub mod Mentions
+pub mod Renaming
+pub mod Numbering
+pub mod Words

@@ -1,0 +1,15 @@
+pub mod State
+pub mod Held
+pub mod Making
+pub mod Texts
+pub mod Number
+pub mod Draft
+pub mod Operations
+pub mod Builtins
+pub mod Methods
+pub mod Body
+pub mod Running
+pub mod Binding
+pub mod Display
+pub mod Source
+pub mod Turns

@@ -1,0 +1,9 @@
+pub mod NameSets
+pub mod Walking
+pub mod LocalLayers
+pub mod RefusalLaws
+pub mod UseLayers
+pub mod OneMore
+pub mod Doubles
+pub mod NameLaws
+pub mod Operations

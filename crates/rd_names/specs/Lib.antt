@@ -1,0 +1,5 @@
+pub mod Refusals
+pub mod Spelling
+pub mod Options
+pub mod Uses
+pub mod Names

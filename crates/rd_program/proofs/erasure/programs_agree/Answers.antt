@@ -1,7 +1,0 @@
-use Rattle.rd_value.specs.Model.{file_of}
-use Rattle.rd_body.specs.Running.{own}
-use Rattle.rd_program.proofs.ErasedPrograms.{body_with_files, signature_with_files}
-use Rattle.rd_program.proofs.erasure.programs_agree.Goals as goal
-
-pub returns : goal.returns
-returns c = record { bodies = body_with_files file_of own; signatures = signature_with_files file_of }

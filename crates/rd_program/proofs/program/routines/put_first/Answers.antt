@@ -1,8 +1,0 @@
-use Rattle.std.proofs.Common.{◌∙◌, sym}
-use Rattle.std.specs.Str.{bytes_eq}
-use Rattle.indexmap.specs.IndexMap.{get}
-use Rattle.rd_program.proofs.Firsts.{first_put}
-use Rattle.rd_program.proofs.program.routines.put_first.Goals as goal
-
-pub returns : goal.returns
-returns c = first_put (get bytes_eq c.args.tasks.now) c.args.name c.args.task (sym c.contains_key.ensures ∙ c.if-contains_key.false) (get bytes_eq c.insert.new.self) c.in_ok-insert.ensures.updates.0

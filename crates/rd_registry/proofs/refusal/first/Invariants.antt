@@ -1,6 +1,0 @@
-use Rattle.std.proofs.Common.{◌≡◌, None, drop}
-use Rattle.rd_registry.specs.Refusals.{soonest}
-use Rattle.rd_registry.proofs.refusal.first.Given as goal
-
-abbrev pub invariant-loop-refusal : goal.invariant-loop-refusal
-invariant-loop-refusal l = soonest l.found (drop l.refusal-index l.refusals) ≡ soonest None l.refusals

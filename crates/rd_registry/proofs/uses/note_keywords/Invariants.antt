@@ -1,7 +1,0 @@
-use Rattle.std.proofs.Common.{◌≡◌, ◌++◌, [], drop}
-use Rattle.rd_registry.specs.Names.{doubles}
-use Rattle.rd_registry.specs.Uses.{keyword_names}
-use Rattle.rd_registry.proofs.uses.note_keywords.Given as goal
-
-abbrev pub invariant-loop-keyword : goal.invariant-loop-keyword
-invariant-loop-keyword l = l.all.items ++ doubles l.seen.keys (keyword_names (drop l.keyword-index l.keywords)) ≡ l.fn.all.items ++ doubles [] (keyword_names l.keywords)
