@@ -1,6 +1,7 @@
-#!/bin/sh
+#!/bin/bash
 # How long bodies take in the program and in CPython: the same code in both, twenty bodies a run.
-# It prints a line for each kind of work: seconds of the program, seconds of CPython, and their ratio.
+# It prints a line for each kind of work: processor time of the program, of CPython, and their ratio.
+# Processor time, since other work on the machine changes the clock's time.
 set -eu
 top=$(cd "$(dirname "$0")/.." && pwd)
 room=$(mktemp -d)
@@ -39,19 +40,18 @@ source_of() {
     printf ']\n'
 }
 
-seconds() {
-    begin=$(date +%s%N)
-    "$@" >"$room/printed"
-    end=$(date +%s%N)
-    echo $(((end - begin) / 1000000))
+# Milliseconds of the processor.
+milliseconds() {
+    TIMEFORMAT='%U %S'
+    { time "$@" >"$room/printed"; } 2>&1 | awk '{ printf "%d", ($1 + $2) * 1000 }'
 }
 
 for kind in loops lists index texts helpers; do
     source_of "$kind" >w.py
     { printf 'def task(f): return f\n'; sed 's/xs = range(100000)/xs = list(range(100000))/' w.py; printf 'print(main())\n'; } >p.py
-    ours=$(seconds "$top/redun" run w.py main)
+    ours=$(milliseconds "$top/redun" run w.py main)
     cp "$room/printed" ours
-    theirs=$(seconds python3 p.py)
+    theirs=$(milliseconds python3 p.py)
     cmp -s "$room/printed" ours || echo "$kind: the answers differ" >&2
     echo "$kind: $ours ms, CPython $theirs ms, ratio $((ours * 100 / theirs)) percent"
 done

@@ -31,4 +31,5 @@ pub use write::expr::write_expr;
 pub use write::record::{
     write_args, write_children, write_execution, write_footprint, write_writes,
 };
-pub use write::value::write_value;
+pub use write::string::push_text;
+pub use write::value::{push_value, write_value};

@@ -8,6 +8,7 @@ use Rattle.rd_value.specs.declared.value.Datum.TheViews as made
 use Rattle.rd_value.specs.declared.value.Datum.TheVariants as value
 use Rattle.rd_value.specs.declared.value.Datum.TheOpen.{Datum-F}
 use Rattle.rd_value.specs.declared.value.Datum.TheFolds.{fold-roll-Datum}
+use Rattle.rd_value.specs.declared.expr.OpKind.{OpKind}
 use Rattle.rd_value.specs.declared.expr.Lazy.{Lazy, out-Lazy}
 use Rattle.rd_value.specs.declared.expr.Lazy.TheViews as made_expr
 use Rattle.rd_value.specs.declared.expr.Lazy.TheVariants as lazy
@@ -79,6 +80,10 @@ module _ {F G : Type 0} (h : F → G) where
 
   pub dict_of_with_files : (ps : List (Datum F × Lazy F)) → with_files_expr h (lazy.DictOf ps) ≡ lazy.DictOf (map pair_with ps)
   dict_of_with_files ps = dict_of_parts ps ∙ ap lazy.DictOf (pairs_twice ps)
+
+  pub op_of_with_files : (kind : OpKind) (es : List (Lazy F)) → with_files_expr h (lazy.Op kind es) ≡ lazy.Op kind (map (with_files_expr h) es)
+  unfolding made_expr.roll-Lazy denote.Hole.Carrier.roll
+  op_of_with_files kind es = fold-roll-Lazy F (Lazy G) (λ x. made_expr.roll-Lazy G (with_file_expr h x)) (Lazy-F.Op kind es)
 
   -- ---- values
 

@@ -13,6 +13,7 @@ use Rattle.rd_value.specs.declared.expr.OpKind.{OpKind}
 use Rattle.rd_value.specs.declared.expr.OpKind.TheVariants as op
 use Rattle.rd_value.specs.declared.expr.Lazy.{Lazy, out-Lazy}
 use Rattle.rd_value.specs.declared.expr.Lazy.TheOpen.{Lazy-F}
+use Rattle.rd_value.specs.declared.expr.Lazy.TheVariants as lazy
 use Rattle.rd_value.specs.Compare.{equal}
 use Rattle.rd_value.specs.Erase.{with_files, with_files_expr}
 use Rattle.rd_value.specs.Expand.{listed}
@@ -27,10 +28,10 @@ use Rattle.rd_tree.specs.declared.tree.Comparison.{Comparison}
 use Rattle.rd_tree.specs.declared.tree.Comparison.TheVariants as comparison
 use Rattle.rd_interpreter.specs.State.{Part}
 use Rattle.rd_interpreter.specs.Held.{items_of}
-use Rattle.rd_interpreter.specs.Operations.{number_of, item_found, item_under, has_item, has_key, turned, key_in, text_in, contained_in, membership, held_under, under_key, unsettled_plus, repeated, counted, unsettled_times, index_into, unsettled_index, unsettled, on_values, on_both, operate, negated, negative, compare}
+use Rattle.rd_interpreter.specs.Operations.{number_of, item_found, item_under, has_item, has_key, turned, key_in, text_in, contained_in, membership, held_under, under_key, counted, repetition, operation, unsettled_plus, repeated, repeated_or, unsettled_times, index_into, unsettled_index, unsettled, on_values, on_both, operate, negated, negative, compare}
 use Rattle.rd_body.proofs.ErasedParts.{mapped, state_with, answered_carries}
-use Rattle.rd_body.proofs.ErasedHeld.{pair_with, value_pair_with, expr_lifted, pairs_twice, number_with_files, items_with_files}
-use Rattle.rd_body.proofs.ErasedMaking.{Same, taken_same, worked_same, truth_same, before, made_same}
+use Rattle.rd_body.proofs.ErasedHeld.{pair_with, value_pair_with, expr_lifted, pairs_twice, number_with_files, items_with_files, op_of_with_files}
+use Rattle.rd_body.proofs.ErasedMaking.{Same, taken_same, worked_same, truth_same, before, measured_same, made_same}
 
 any_map : {A B : Type 0} (f : A → B) (p : A → Bool) (q : B → Bool) → ((x : A) → q (f x) ≡ p x) → (xs : List A) → list_any q (map f xs) ≡ list_any p xs
 any_map f p q e [] = refl
@@ -47,6 +48,26 @@ module _ {F G : Type 0} (h : F → G) where
   item_under_put : (es : List (Lazy F)) (n : Option ℤ) → item_under (map (with_files_expr h) es) n ≡ mapped (with_files_expr h) (item_under es n)
   item_under_put es None = refl
   item_under_put es (Some n) = ap item_found (item_put es n) ∙ found_put (item_at es n)
+
+  abbrev first_with : List (Lazy F) × ℤ → List (Lazy G) × ℤ
+  first_with p = (map (with_files_expr h) p.0, p.1)
+
+  counted_put : (x : Lazy-F F (Lazy F)) (n : Option ℤ) → counted (expr_lifted h x) n ≡ option_map first_with (counted x n)
+  counted_put (Lazy-F.ListOf es) (Some n) = refl
+  counted_put (Lazy-F.ListOf es) None = refl
+  counted_put x n = refl
+
+  counted_as : (x : Lazy-F F (Lazy F)) (w : Datum F) → counted (expr_lifted h x) (number_of (with_files h w)) ≡ option_map first_with (counted x (number_of w))
+  counted_as x w = ap (counted (expr_lifted h x)) (number_with_files h w) ∙ counted_put x (number_of w)
+
+  repetition_put : (v w : Option (Datum F)) (x y : Lazy-F F (Lazy F)) → repetition (option_map (with_files h) v) (option_map (with_files h) w) (expr_lifted h x) (expr_lifted h y) ≡ option_map first_with (repetition v w x y)
+  repetition_put None (Some w) x y = counted_as x w
+  repetition_put (Some v) None x y = counted_as y v
+  repetition_put None None x y = refl
+  repetition_put (Some v) (Some w) x y = refl
+
+  repetition_of : (a b : Lazy F) → repetition (value_of (with_files_expr h a)) (value_of (with_files_expr h b)) (out-Lazy G (with_files_expr h a)) (out-Lazy G (with_files_expr h b)) ≡ option_map first_with (repetition (value_of a) (value_of b) (out-Lazy F a) (out-Lazy F b))
+  repetition_of a b = rw (value_with_files h a, value_with_files h b, out_with_files_expr h a, out_with_files_expr h b) (repetition_put (value_of a) (value_of b) (out-Lazy F a) (out-Lazy F b))
 
 module _ {F G : Type 0} (h : F → G) (file : G → FileValue) where
   abbrev own : F → FileValue
@@ -108,34 +129,27 @@ module _ {F G : Type 0} (h : F → G) (file : G → FileValue) where
 
     -- ---- operators of which a side isn't settled
 
+    operation_same : (kind : OpKind) (es : List (Lazy F)) → Alike (operation own kind es) (operation file kind (map (with_files_expr h) es))
+    operation_same kind es = measured_same h file (lazy.Op kind es) (lazy.Op kind (map (with_files_expr h) es)) (sym (op_of_with_files h kind es))
+
     plus_same : (xs ys : Option (List (Lazy F))) (a b : Lazy F) → Alike (unsettled_plus own xs ys a b) (unsettled_plus file (option_map (map (with_files_expr h)) xs) (option_map (map (with_files_expr h)) ys) (with_files_expr h a) (with_files_expr h b))
     plus_same (Some xs) (Some ys) a b =
         made_same h file (listed own (xs ++ ys)) (listed file (map (with_files_expr h) xs ++ map (with_files_expr h) ys))
         (ap (listed file) (sym (map-append (with_files_expr h) xs ys)) ∙ listed_with_files h file (xs ++ ys))
-    plus_same (Some xs) None a b = λ s. refl
-    plus_same None ys a b = λ s. refl
+    plus_same (Some xs) None a b = operation_same op.Add (a ∷ b ∷ [])
+    plus_same None ys a b = operation_same op.Add (a ∷ b ∷ [])
 
     repeated_same : (es : List (Lazy F)) (n : ℤ) → Alike (repeated own es n) (repeated file (map (with_files_expr h) es) n)
     repeated_same es n =
         made_same h file (listed own (repeat (times n) es)) (listed file (repeat (times n) (map (with_files_expr h) es)))
         (ap (listed file) (sym (repeat_map (with_files_expr h) (times n) es)) ∙ listed_with_files h file (repeat (times n) es))
 
-    counted_same : (x : Lazy-F F (Lazy F)) (n : Option ℤ) (a b : Lazy F) → Alike (counted own x n a b) (counted file (expr_lifted h x) n (with_files_expr h a) (with_files_expr h b))
-    counted_same (Lazy-F.ListOf es) (Some n) a b = repeated_same es n
-    counted_same (Lazy-F.ListOf es) None a b = λ s. refl
-    counted_same x n a b = λ s. refl
+    repeated_or_same : (o : Option (List (Lazy F) × ℤ)) (a b : Lazy F) → Alike (repeated_or own o a b) (repeated_or file (option_map (first_with h) o) (with_files_expr h a) (with_files_expr h b))
+    repeated_or_same (Some p) a b = repeated_same p.0 p.1
+    repeated_or_same None a b = operation_same op.Mul (a ∷ b ∷ [])
 
-    counted_as : (x : Lazy F) (w : Datum F) (a b : Lazy F) → Alike (counted own (out-Lazy F x) (number_of w) a b) (counted file (out-Lazy G (with_files_expr h x)) (number_of (with_files h w)) (with_files_expr h a) (with_files_expr h b))
-    counted_as x w a b s =
-        ap (λ y. counted file y (number_of (with_files h w)) (with_files_expr h a) (with_files_expr h b) (state_with h s)) (out_with_files_expr h x)
-        ∙ ap (λ n. counted file (expr_lifted h (out-Lazy F x)) n (with_files_expr h a) (with_files_expr h b) (state_with h s)) (number_with_files h w)
-        ∙ counted_same (out-Lazy F x) (number_of w) a b s
-
-    times_same : (v w : Option (Datum F)) (a b : Lazy F) → Alike (unsettled_times own v w a b) (unsettled_times file (option_map (with_files h) v) (option_map (with_files h) w) (with_files_expr h a) (with_files_expr h b))
-    times_same None (Some w) a b = counted_as a w a b
-    times_same (Some v) None a b = counted_as b v a b
-    times_same None None a b = λ s. refl
-    times_same (Some v) (Some w) a b = λ s. refl
+    times_same : (a b : Lazy F) → Alike (unsettled_times own a b) (unsettled_times file (with_files_expr h a) (with_files_expr h b))
+    times_same a b s = ap (λ o. repeated_or file o (with_files_expr h a) (with_files_expr h b) (state_with h s)) (repetition_of h a b) ∙ repeated_or_same (repetition (value_of a) (value_of b) (out-Lazy F a) (out-Lazy F b)) a b s
 
     index_into_same : (x : Lazy-F F (Lazy F)) (w : Datum F) (a b : Lazy F) → Alike (index_into own x w a b) (index_into file (expr_lifted h x) (with_files h w) (with_files_expr h a) (with_files_expr h b))
     index_into_same (Lazy-F.ListOf es) w a b =
@@ -144,10 +158,10 @@ module _ {F G : Type 0} (h : F → G) (file : G → FileValue) where
     index_into_same (Lazy-F.DictOf ps) w a b =
         answered_carries h (with_files_expr h) (under_key own ps (out-Datum F w)) _
         (ap (λ qs. under_key file qs (out-Datum G (with_files h w))) (pairs_twice h ps) ∙ ap (under_key file (map (pair_with h) ps)) (out_with_files h w) ∙ under_key_put ps (out-Datum F w))
-    index_into_same x w a b = λ s. refl
+    index_into_same x w a b = operation_same op.Index (a ∷ b ∷ [])
 
     index_same : (w : Option (Datum F)) (a b : Lazy F) → Alike (unsettled_index own w a b) (unsettled_index file (option_map (with_files h) w) (with_files_expr h a) (with_files_expr h b))
-    index_same None a b s = refl
+    index_same None a b s = operation_same op.Index (a ∷ b ∷ []) s
     index_same (Some w) a b s =
         ap (λ x. index_into file x (with_files h w) (with_files_expr h a) (with_files_expr h b) (state_with h s)) (out_with_files_expr h a) ∙ index_into_same (out-Lazy F a) w a b s
 
@@ -156,13 +170,10 @@ module _ {F G : Type 0} (h : F → G) (file : G → FileValue) where
         ap (λ xs. unsettled_plus file xs (items_of (with_files_expr h b)) (with_files_expr h a) (with_files_expr h b) (state_with h s)) (items_with_files h a)
         ∙ ap (λ ys. unsettled_plus file (option_map (map (with_files_expr h)) (items_of a)) ys (with_files_expr h a) (with_files_expr h b) (state_with h s)) (items_with_files h b)
         ∙ plus_same (items_of a) (items_of b) a b s
-    unsettled_same op.Mul a b s =
-        ap (λ v. unsettled_times file v (value_of (with_files_expr h b)) (with_files_expr h a) (with_files_expr h b) (state_with h s)) (value_with_files h a)
-        ∙ ap (λ w. unsettled_times file (option_map (with_files h) (value_of a)) w (with_files_expr h a) (with_files_expr h b) (state_with h s)) (value_with_files h b)
-        ∙ times_same (value_of a) (value_of b) a b s
+    unsettled_same op.Mul a b s = times_same a b s
     unsettled_same op.Index a b s =
         ap (λ w. unsettled_index file w (with_files_expr h a) (with_files_expr h b) (state_with h s)) (value_with_files h b) ∙ index_same (value_of b) a b s
-    unsettled_same kind a b s = refl
+    unsettled_same kind a b s = operation_same kind (a ∷ b ∷ []) s
 
     -- ---- all operators
 
@@ -183,7 +194,7 @@ module _ {F G : Type 0} (h : F → G) (file : G → FileValue) where
 
     negated_same : (v : Option (Datum F)) (a : Lazy F) → Alike (negated own v a) (negated file (option_map (with_files h) v) (with_files_expr h a))
     negated_same (Some v) a = worked_same h (unary own op.Neg v) (unary file op.Neg (with_files h v)) (applied_with_files h file op.Neg (v ∷ []))
-    negated_same None a = λ s. refl
+    negated_same None a = operation_same op.Neg (a ∷ [])
 
     pub negative_same : (a : Lazy F) → Alike (negative own a) (negative file (with_files_expr h a))
     negative_same a s = ap (λ v. negated file v (with_files_expr h a) (state_with h s)) (value_with_files h a) ∙ negated_same (value_of a) a s

@@ -18,3 +18,4 @@ pub mod RenamedParts
 pub mod RenamedPlaces
 pub mod RenamedStatements
 pub mod Outcomes
+pub mod Threads

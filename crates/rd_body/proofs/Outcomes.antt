@@ -1,5 +1,5 @@
 -- What is run of a job is what its code comes to.
-use Rattle.std.proofs.Common.{◌≡◌, ℕ, List, map, Result, ap, ◌∙◌}
+use Rattle.std.proofs.Common.{◌≡◌, List, map, Result, ap, ◌∙◌}
 use Rattle.rd_value.specs.declared.value.ErrorValue.{ErrorValue}
 use Rattle.rd_value.specs.declared.value.FileValue.{FileValue}
 use Rattle.rd_value.specs.declared.value.Datum.{Datum}

@@ -25,7 +25,7 @@ use Rattle.rd_interpreter.specs.declared.method.Method.TheVariants as method
 use Rattle.rd_interpreter.specs.State.{Part}
 use Rattle.rd_interpreter.specs.Held.{pair_held, items_of}
 use Rattle.rd_interpreter.specs.Making.{making, making_held, is_kept, measured, made, worked, taken, truth_value}
-use Rattle.rd_interpreter.specs.Operations.{number_of, operate, negative, compare, counted, unsettled, unsettled_plus, unsettled_times, index_into, unsettled_index, on_both, negated}
+use Rattle.rd_interpreter.specs.Operations.{number_of, operate, negative, compare, unsettled, unsettled_plus, repeated_or, index_into, unsettled_index, on_both, negated}
 use Rattle.rd_interpreter.specs.Operations as operations
 use Rattle.rd_interpreter.specs.Builtins.{takes, produced, str_held, on_values, on_settled, on_others, on_arguments}
 use Rattle.rd_interpreter.specs.Methods as methods
@@ -65,43 +65,36 @@ module _ {N M F : Type 0} (r : N → M) where
 
     plus_steady : (xs ys : Option (List (Lazy F))) (a b : Lazy F) → Steady (unsettled_plus file xs ys a b) (unsettled_plus file xs ys a b)
     plus_steady (Some xs) (Some ys) a b = made_steady (listed file (xs ++ ys))
-    plus_steady (Some xs) None a b = λ s. refl
-    plus_steady None ys a b = λ s. refl
+    plus_steady (Some xs) None a b = measured_steady _
+    plus_steady None ys a b = measured_steady _
 
-    counted_steady : (x : Lazy-F F (Lazy F)) (n : Option ℤ) (a b : Lazy F) → Steady (counted file x n a b) (counted file x n a b)
-    counted_steady (Lazy-F.ListOf es) (Some n) a b = made_steady _
-    counted_steady (Lazy-F.ListOf es) None a b = λ s. refl
-    counted_steady x n a b = λ s. refl
-
-    times_steady : (v w : Option (Datum F)) (a b : Lazy F) → Steady (unsettled_times file v w a b) (unsettled_times file v w a b)
-    times_steady None (Some w) a b = counted_steady (out-Lazy F a) (number_of w) a b
-    times_steady (Some v) None a b = counted_steady (out-Lazy F b) (number_of v) a b
-    times_steady None None a b = λ s. refl
-    times_steady (Some v) (Some w) a b = λ s. refl
+    repeated_or_steady : (o : Option (List (Lazy F) × ℤ)) (a b : Lazy F) → Steady (repeated_or file o a b) (repeated_or file o a b)
+    repeated_or_steady (Some p) a b = made_steady _
+    repeated_or_steady None a b = measured_steady _
 
     index_into_steady : (x : Lazy-F F (Lazy F)) (w : Datum F) (a b : Lazy F) → Steady (index_into file x w a b) (index_into file x w a b)
     index_into_steady (Lazy-F.ListOf es) w a b = answered_carries r _
     index_into_steady (Lazy-F.DictOf ps) w a b = answered_carries r _
-    index_into_steady x w a b = λ s. refl
+    index_into_steady x w a b = measured_steady _
 
     index_steady : (w : Option (Datum F)) (a b : Lazy F) → Steady (unsettled_index file w a b) (unsettled_index file w a b)
-    index_steady None a b = λ s. refl
+    index_steady None a b = measured_steady _
     index_steady (Some w) a b = index_into_steady (out-Lazy F a) w a b
 
     unsettled_steady : (kind : OpKind) (a b : Lazy F) → Steady (unsettled file kind a b) (unsettled file kind a b)
     unsettled_steady op.Add a b = plus_steady (items_of a) (items_of b) a b
-    unsettled_steady op.Mul a b = times_steady (value_of a) (value_of b) a b
+    unsettled_steady op.Mul a b = repeated_or_steady _ a b
     unsettled_steady op.Index a b = index_steady (value_of b) a b
-    unsettled_steady op.Sub a b = λ s. refl
-    unsettled_steady op.FloorDiv a b = λ s. refl
-    unsettled_steady op.Mod a b = λ s. refl
-    unsettled_steady op.Neg a b = λ s. refl
-    unsettled_steady op.Eq a b = λ s. refl
-    unsettled_steady op.Ne a b = λ s. refl
-    unsettled_steady op.Lt a b = λ s. refl
-    unsettled_steady op.Le a b = λ s. refl
-    unsettled_steady op.Gt a b = λ s. refl
-    unsettled_steady op.Ge a b = λ s. refl
+    unsettled_steady op.Sub a b = measured_steady _
+    unsettled_steady op.FloorDiv a b = measured_steady _
+    unsettled_steady op.Mod a b = measured_steady _
+    unsettled_steady op.Neg a b = measured_steady _
+    unsettled_steady op.Eq a b = measured_steady _
+    unsettled_steady op.Ne a b = measured_steady _
+    unsettled_steady op.Lt a b = measured_steady _
+    unsettled_steady op.Le a b = measured_steady _
+    unsettled_steady op.Gt a b = measured_steady _
+    unsettled_steady op.Ge a b = measured_steady _
 
     values_steady : (kind : OpKind) (v w : Datum F) → Steady (operations.on_values file kind v w) (operations.on_values file kind v w)
     values_steady op.Index v w = taken_steady (binary file op.Index v w)
@@ -128,7 +121,7 @@ module _ {N M F : Type 0} (r : N → M) where
 
     negated_steady : (v : Option (Datum F)) (a : Lazy F) → Steady (negated file v a) (negated file v a)
     negated_steady (Some v) a = worked_steady (unary file op.Neg v)
-    negated_steady None a = λ s. refl
+    negated_steady None a = measured_steady _
 
     pub negative_steady : (a : Lazy F) → Steady (negative file a) (negative file a)
     negative_steady a = negated_steady (value_of a) a

@@ -17,7 +17,6 @@ use Rattle.rd_routine.specs.declared.routine.Routine.{Routine}
 use Rattle.rd_routine.specs.declared.routine.Word.{Word}
 use Rattle.rd_interpreter.specs.Body as body
 use Rattle.rd_interpreter.specs.Running.{or_at, parameter_of, routine_of}
-use Rattle.rd_tree.specs.declared.tree.Statement.{Statement}
 use Rattle.rd_code.specs.declared.mention.Mention.{Mention}
 use Rattle.rd_code.specs.Mentions.{called, class}
 use Rattle.rd_code.specs.Numbering.{place}

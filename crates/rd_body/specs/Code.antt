@@ -1,5 +1,5 @@
 -- What the code of a task means.
-use Rattle.std.specs.Prelude.{ℕ, List, map, Option, Result, Ok, Err}
+use Rattle.std.specs.Prelude.{ℕ, List, map, Option, Result}
 use Rattle.std.specs.Option.{option_map}
 use Rattle.std.specs.Str.{bytes_eq}
 use Rattle.rd_value.specs.declared.value.ErrorValue.{ErrorValue}

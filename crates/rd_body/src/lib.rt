@@ -1,6 +1,7 @@
 //! Runs the bodies of tasks.
 #![tactic(auto)]
 
+pub mod crossing;
 mod job;
 pub mod laws;
 

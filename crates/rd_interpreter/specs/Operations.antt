@@ -24,7 +24,7 @@ use Rattle.rd_tree.specs.declared.tree.Comparison.{Comparison}
 use Rattle.rd_tree.specs.declared.tree.Comparison.TheVariants as comparison
 use Rattle.rd_interpreter.specs.State.{State, Ran, Part, answered}
 use Rattle.rd_interpreter.specs.Held.{not_settled, items_of, pairs_of, settled}
-use Rattle.rd_interpreter.specs.Making.{made, worked, taken, truth_value}
+use Rattle.rd_interpreter.specs.Making.{made, measured, worked, taken, truth_value}
 use Rattle.rd_interpreter.specs.Texts.{occurs}
 
 -- what a body calls an operator, and what an expression does
@@ -38,10 +38,6 @@ kind_of operator.Mod = op.Mod
 -- a number that a settled value is
 abbrev pub number_of : {F : Type 0} → Datum F → Option ℤ
 number_of {F} v = number_at (out-Datum F v)
-
--- an operator on what isn't settled
-abbrev pub operation : {N F : Type 0} → OpKind → List (Lazy F) → Part N F (Lazy F)
-operation kind parts s = Err not_settled
 
 -- ---- an index into a list or dict with parts that aren't settled
 
@@ -67,6 +63,18 @@ has_key file k ps = list_any (λ p. equal file p.0 k) ps
 abbrev pub turned : (Bool → Bool) → Result Bool ErrorValue → Result Bool ErrorValue
 turned f (Ok b) = Ok (f b)
 turned f (Err e) = Err e
+
+-- ---- a list with parts that aren't settled so many times
+
+abbrev pub counted : {F : Type 0} → Lazy-F F (Lazy F) → Option ℤ → Option (List (Lazy F) × ℤ)
+counted (Lazy-F.ListOf es) (Some n) = Some (es, n)
+counted _ _ = None
+
+-- the list and the number of which `*` is, in either order
+abbrev pub repetition : {F : Type 0} → Option (Datum F) → Option (Datum F) → Lazy-F F (Lazy F) → Lazy-F F (Lazy F) → Option (List (Lazy F) × ℤ)
+repetition None (Some w) x y = counted x (number_of w)
+repetition (Some v) None x y = counted y (number_of v)
+repetition _ _ x y = None
 
 module _ {F : Type 0} (file : F → FileValue) where
   -- an Int or a Text in a dict
@@ -108,6 +116,10 @@ module _ {F : Type 0} (file : F → FileValue) where
   module _ {N : Type 0} where
     -- ---- operators of which a side isn't settled
 
+    -- the expression of an operator on its parts
+    abbrev pub operation : OpKind → List (Lazy F) → Part N F (Lazy F)
+    operation kind parts = measured file (lazy.Op kind parts)
+
     -- `+` of two lists
     abbrev pub unsettled_plus : Option (List (Lazy F)) → Option (List (Lazy F)) → Lazy F → Lazy F → Part N F (Lazy F)
     unsettled_plus (Some xs) (Some ys) a b = made file (listed file (xs ++ ys))
@@ -117,16 +129,14 @@ module _ {F : Type 0} (file : F → FileValue) where
     abbrev pub repeated : List (Lazy F) → ℤ → Part N F (Lazy F)
     repeated es n = made file (listed file (repeat (times n) es))
 
-    -- a list with parts that aren't settled so many times
-    abbrev pub counted : Lazy-F F (Lazy F) → Option ℤ → Lazy F → Lazy F → Part N F (Lazy F)
-    counted (Lazy-F.ListOf es) (Some n) a b = repeated es n
-    counted _ _ a b = operation op.Mul (a ∷ b ∷ [])
+    -- what `*` repeats, or an operator
+    abbrev pub repeated_or : Option (List (Lazy F) × ℤ) → Lazy F → Lazy F → Part N F (Lazy F)
+    repeated_or (Some p) a b = repeated p.0 p.1
+    repeated_or None a b = operation op.Mul (a ∷ b ∷ [])
 
-    -- `*` of what isn't settled and a settled value, in either order
-    abbrev pub unsettled_times : Option (Datum F) → Option (Datum F) → Lazy F → Lazy F → Part N F (Lazy F)
-    unsettled_times None (Some w) a b = counted (out-Lazy F a) (number_of w) a b
-    unsettled_times (Some v) None a b = counted (out-Lazy F b) (number_of v) a b
-    unsettled_times _ _ a b = operation op.Mul (a ∷ b ∷ [])
+    -- `*` of which a side isn't settled
+    abbrev pub unsettled_times : Lazy F → Lazy F → Part N F (Lazy F)
+    unsettled_times a b = repeated_or (repetition (value_of a) (value_of b) (out-Lazy F a) (out-Lazy F b)) a b
 
     abbrev pub index_into : Lazy-F F (Lazy F) → Datum F → Lazy F → Lazy F → Part N F (Lazy F)
     index_into (Lazy-F.ListOf es) w a b = answered (item_under es (number_of w))
@@ -140,7 +150,7 @@ module _ {F : Type 0} (file : F → FileValue) where
 
     abbrev pub unsettled : OpKind → Lazy F → Lazy F → Part N F (Lazy F)
     unsettled op.Add a b = unsettled_plus (items_of a) (items_of b) a b
-    unsettled op.Mul a b = unsettled_times (value_of a) (value_of b) a b
+    unsettled op.Mul a b = unsettled_times a b
     unsettled op.Index a b = unsettled_index (value_of b) a b
     unsettled kind a b = operation kind (a ∷ b ∷ [])
 

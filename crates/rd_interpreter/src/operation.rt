@@ -4,8 +4,8 @@ ghost use Rattle.std.specs.Prelude.{◌≡◌, ◌≤◌, ◌<◌, ◌∷◌, �
 ghost use Rattle.rd_value.specs.declared.value.Datum.{out-Datum};
 ghost use Rattle.rd_value.specs.declared.value.FileValue.{FileValue};
 ghost use Rattle.std.specs.List.{repeat};
-ghost use Rattle.std.specs.Option.{option_copied};
-ghost use Rattle.rd_value.specs.declared.expr.Lazy.{Lazy, out-Lazy};
+ghost use Rattle.std.specs.Option.{option_copied, option_map};
+ghost use Rattle.rd_value.specs.declared.expr.Lazy.{out-Lazy};
 ghost use Rattle.rd_value.specs.declared.expr.Lazy.TheVariants as lazy;
 ghost use Rattle.rd_value.specs.Limits.{max_size};
 ghost use Rattle.rd_value.specs.Make.{value_of};
@@ -18,7 +18,7 @@ use crate::display::listed;
 use crate::frame::Frame;
 use crate::halt::{Halt, raise};
 use crate::held::not_settled;
-use crate::making::{made, taken_answer, value_limit, worked_answer};
+use crate::making::{made, measured, taken_answer, value_limit, worked_answer};
 use crate::texts::occurs;
 use rd_base::{Copies, OutOfMemory};
 use rd_meaning::index::place;
@@ -54,11 +54,14 @@ fn value(expr: &Expr) -> Option<&Value>
     }
 }
 
-/// An operator on what isn't settled.
+/// The expression of an operator between two sides.
 fn operation(alloc: Global, frame: &Frame, kind: OpKind, a: &Expr, b: &Expr) -> Result<Expr, Halt>
-    ensures { Gives result (state frame.now) (spec.operation kind (a.now ∷ b.now ∷ []) (state frame.now)) }
+    ensures { Gives result (state frame.now) (spec.operation own kind (a.now ∷ b.now ∷ []) (state frame.now)) }
 {
-    Err(not_settled(alloc))
+    let mut parts = Exprs::new(alloc);
+    parts.push(alloc, a.copy(alloc)?)?;
+    parts.push(alloc, b.copy(alloc)?)?;
+    measured(alloc, frame, Expr::Op { op: kind, parts })
 }
 
 fn bad_operand(alloc: Global) -> Halt
@@ -282,7 +285,18 @@ pub fn negative(alloc: Global, frame: &mut Frame, a: &Expr) -> Result<Expr, Halt
             let answer = unary(alloc, OpKind::Neg, value)?;
             worked_answer(alloc, frame, answer)
         }
-        _ => Err(not_settled(alloc)),
+        _ => {
+            let mut parts = Exprs::new(alloc);
+            parts.push(alloc, a.copy(alloc)?)?;
+            measured(
+                alloc,
+                frame,
+                Expr::Op {
+                    op: OpKind::Neg,
+                    parts,
+                },
+            )
+        }
     }
 }
 
@@ -315,17 +329,15 @@ pub fn compare(
     }
 }
 
-/// What isn't settled so many times.
-fn counted(alloc: Global, frame: &mut Frame, list: &Expr, count: &Value) -> Result<Expr, Halt>
-    ensures gives { (a b : Lazy FileValue) → Gives result (state frame.new) (spec.counted own (out-Lazy FileValue list.now) (spec.number_of count.now) a b (state frame.old)) }
-    ensures left { frame.new.left ≤ frame.old.left }
+/// The list with parts that aren't settled and the number of which `*` is, in either order.
+fn repetition<'a>(a: &'a Expr, b: &'a Expr) -> Option<(&'a [Expr], i64)>
+    ensures { option_map (λ p. (p.0.now, p.1)) result ≡ spec.repetition (value_of a.now) (value_of b.now) (out-Lazy FileValue a.now) (out-Lazy FileValue b.now) }
 {
-    match list {
-        Expr::ListOf(items) => match count.number() {
-            Some(count) => list_times(alloc, frame, items.as_slice(), count),
-            None => Err(not_settled(alloc)),
-        },
-        _ => Err(not_settled(alloc)),
+    match (a, b) {
+        (Expr::ListOf(items), Expr::Val(count)) | (Expr::Val(count), Expr::ListOf(items)) => {
+            Some((items.as_slice(), count.number()?))
+        }
+        _ => None,
     }
 }
 
@@ -352,18 +364,12 @@ fn times(count: i64) -> usize
 
 /// `*` where a side isn't settled.
 fn unsettled_times(alloc: Global, frame: &mut Frame, a: &Expr, b: &Expr) -> Result<Expr, Halt>
-    ensures gives { Gives result (state frame.new) (spec.unsettled_times own (value_of a.now) (value_of b.now) a.now b.now (state frame.old)) }
+    ensures gives { Gives result (state frame.new) (spec.unsettled_times own a.now b.now (state frame.old)) }
     ensures left { frame.new.left ≤ frame.old.left }
 {
-    match value(a) {
-        Some(count) => match value(b) {
-            Some(_) => operation(alloc, frame, OpKind::Mul, a, b),
-            None => counted(alloc, frame, b, count),
-        },
-        None => match value(b) {
-            Some(count) => counted(alloc, frame, a, count),
-            None => operation(alloc, frame, OpKind::Mul, a, b),
-        },
+    match repetition(a, b) {
+        Some((items, count)) => list_times(alloc, frame, items, count),
+        None => operation(alloc, frame, OpKind::Mul, a, b),
     }
 }
 

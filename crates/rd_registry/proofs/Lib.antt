@@ -4,7 +4,12 @@ pub mod ErasedModules
 pub mod Located
 pub mod Meanings
 pub mod Mentioned
+pub mod OneOrder
 pub mod Reaching
 pub mod Registered
 pub mod ResolvedCodes
+pub mod Structures
 pub mod Tasks
+pub mod Kept
+pub mod Deeper
+pub mod Footprint

@@ -79,7 +79,7 @@ met_outside k ms q ps r name e u =
 
 -- ---- literals
 
-literal_twice_at : (v : Datum-F FileValue (Datum FileValue)) → literal {F = FileValue} (literal_at v) ≡ lazy.Val (body.literal_at v)
+literal_twice_at : {F : Type 0} (v : Datum-F FileValue (Datum FileValue)) → literal {F = F} (literal_at v) ≡ lazy.Val (body.literal_at v)
 unfolding out-Datum denote.Hole.Carrier.out
 literal_twice_at (Datum-F.Bool b) = refl
 literal_twice_at (Datum-F.Int n) = refl
@@ -90,18 +90,18 @@ literal_twice_at (Datum-F.Dict ps) = refl
 literal_twice_at (Datum-F.File f) = refl
 literal_twice_at (Datum-F.Error e) = refl
 
-default_same : (o : Option (Datum FileValue)) → option_map (literal {F = FileValue}) (option_map literal_value o) ≡ option_map literal o
+default_same : {F : Type 0} (o : Option (Datum FileValue)) → option_map (literal {F = F}) (option_map literal_value o) ≡ option_map literal o
 default_same None = refl
 default_same (Some v) = ap Some (literal_twice_at (out-Datum FileValue v))
 
-parameters_same : (ps : List Parameter) → map (code.parameter_with_literal {F = FileValue}) (map parameter_of ps) ≡ map (renamed_first text_of) (map parameter_with_literal ps)
+parameters_same : {F : Type 0} (ps : List Parameter) → map (code.parameter_with_literal {F = F}) (map parameter_of ps) ≡ map (renamed_first text_of) (map parameter_with_literal ps)
 parameters_same [] = refl
-parameters_same (p ∷ ps) =
-    ap (λ d. (p.name.text, d) ∷ map (code.parameter_with_literal {F = FileValue}) (map parameter_of ps)) (default_same p.default) ∙ ap (λ qs. (p.name.text, option_map literal p.default) ∷ qs) (parameters_same ps)
+parameters_same {F} (p ∷ ps) =
+    ap (λ d. (p.name.text, d) ∷ map (code.parameter_with_literal {F = F}) (map parameter_of ps)) (default_same p.default) ∙ ap (λ qs. (p.name.text, option_map literal p.default) ∷ qs) (parameters_same ps)
 
-plain_parameters : (ps : List Parameter) → map (λ p. plain p.0) (map (parameter_with_literal {F = FileValue}) ps) ≡ map plain (map (λ p. p.name) ps)
-plain_parameters [] = refl
-plain_parameters (p ∷ ps) = ap (λ ms. plain p.name ∷ ms) (plain_parameters ps)
+plain_parameters : (F : Type 0) (ps : List Parameter) → map (λ p. plain p.0) (map (parameter_with_literal {F = F}) ps) ≡ map plain (map (λ p. p.name) ps)
+plain_parameters F [] = refl
+plain_parameters F (p ∷ ps) = ap (λ ms. plain p.name ∷ ms) (plain_parameters F ps)
 
 -- ---- uses
 
@@ -335,43 +335,44 @@ module _ (m : Module) where
 
     -- ---- functions
 
-    abbrev as_code : List Parameter → List (Statement Name) → body.Routine (List ℕ) FileValue
-    as_code ps statements = code.function_with task.helpers task.names (map parameter_of ps) (block_of statements)
+    module _ {F : Type 0} (file : F → FileValue) where
+      abbrev as_code : List Parameter → List (Statement Name) → body.Routine (List ℕ) F
+      as_code ps statements = code.function_with task.helpers task.names (map parameter_of ps) (block_of statements)
 
-    mentions_are : (k : Function) → mentions_of (function_of {F = FileValue} m k) ≡ map plain (map (λ p. p.name) k.parameters) ++ mentions_in_block k.body
-    mentions_are k = ap (λ ms. ms ++ mentions_in_block k.body) (plain_parameters k.parameters)
+      mentions_are : (k : Function) → mentions_of (function_of {F = F} m k) ≡ map plain (map (λ p. p.name) k.parameters) ++ mentions_in_block k.body
+      mentions_are k = ap (λ ms. ms ++ mentions_in_block k.body) (plain_parameters F k.parameters)
 
-    met : (k : Function) (r : Role) (name : Name) → is_outside r ≡ true → IsAmong (mentions_of (function_of {F = FileValue} m k)) (named_as r name) → Contains (outside (block_of k.body)) name.text
-    met k r name e u = met_outside k (mentions_in_block k.body) refl (map (λ p. p.name) k.parameters) r name e (subst (λ ms. IsAmong ms (named_as r name)) (mentions_are k) u)
+      met : (k : Function) (r : Role) (name : Name) → is_outside r ≡ true → IsAmong (mentions_of (function_of {F = F} m k)) (named_as r name) → Contains (outside (block_of k.body)) name.text
+      met k r name e u = met_outside k (mentions_in_block k.body) refl (map (λ p. p.name) k.parameters) r name e (subst (λ ms. IsAmong ms (named_as r name)) (mentions_are k) u)
 
-    renames : (k : Function) → Complete k → IsRenamed Together (function_of {F = FileValue} m k) (as_code k.parameters k.body)
-    renames k all = record {
-      by = text_of;
-      renames = record {
-        agrees = record {
-          same = λ x n u. refl;
-          spelling = λ n u. refl;
-          callee = λ name u. callee_agrees k all name.text (met k role.Called name refl u);
-          class_of = λ name u. class_agrees k all name.text (met k role.Class name refl u);
+      renames : (k : Function) → Complete k → IsRenamed Together (function_of {F = F} m k) (as_code k.parameters k.body)
+      renames k all = record {
+        by = text_of;
+        renames = record {
+          agrees = record {
+            same = λ x n u. refl;
+            spelling = λ n u. refl;
+            callee = λ name u. callee_agrees k all name.text (met k role.Called name refl u);
+            class_of = λ name u. class_agrees k all name.text (met k role.Class name refl u);
+          };
+          parameters = parameters_same k.parameters;
+          block = refl;
         };
-        parameters = parameters_same k.parameters;
-        block = refl;
-      };
-    }
+      }
 
-    at_same_places : (p q : ℕ) → Together p q → AreRenamed Together (slice_get (map (function_of {F = FileValue} m) (helpers_of m)) p) (slice_get (map (code.helper_with {F = FileValue} task.helpers task.names) task.helpers) q)
-    at_same_places p q w =
-        subst₂ (AreRenamed Together) (sym (slice_get-map (function_of m) (helpers_of m) p ∙ ap (option_map (function_of m)) w.here)) (sym (slice_get-map (code.helper_with task.helpers task.names) task.helpers q ∙ ap (option_map (code.helper_with task.helpers task.names)) w.there))
-        (renames w.function (helper_complete p q w))
+      at_same_places : (p q : ℕ) → Together p q → AreRenamed Together (slice_get (map (function_of {F = F} m) (helpers_of m)) p) (slice_get (map (code.helper_with {F = F} task.helpers task.names) task.helpers) q)
+      at_same_places p q w =
+          subst₂ (AreRenamed Together) (sym (slice_get-map (function_of m) (helpers_of m) p ∙ ap (option_map (function_of m)) w.here)) (sym (slice_get-map (code.helper_with task.helpers task.names) task.helpers q ∙ ap (option_map (code.helper_with task.helpers task.names)) w.there))
+          (renames w.function (helper_complete p q w))
 
-    as_task : IsRenamed Together (function_of {F = FileValue} m f) (code.function_with task.helpers task.names task.signature.parameters task.body)
-    as_task = subst₂ (λ ps b. IsRenamed Together (function_of {F = FileValue} m f) (code.function_with task.helpers task.names ps b)) (sym (ap (λ x. x.parameters) made.parts.signed)) (sym made.parts.bodied) (renames f task_complete)
+      as_task : IsRenamed Together (function_of {F = F} m f) (code.function_with task.helpers task.names task.signature.parameters task.body)
+      as_task = subst₂ (λ ps b. IsRenamed Together (function_of {F = F} m f) (code.function_with task.helpers task.names ps b)) (sym (ap (λ x. x.parameters) made.parts.signed)) (sym made.parts.bodied) (renames f task_complete)
 
-    -- the code means what the function means
-    pub code_means : (args : List (Datum FileValue)) → code.meaning own task args ≡ body own m f args
-    code_means args =
-        whole_renamed Together own (map (function_of m) (helpers_of m)) (map (code.helper_with task.helpers task.names) task.helpers) at_same_places
-        (function_of m f) (code.function_with task.helpers task.names task.signature.parameters task.body) as_task args
+      -- the code means what the function means
+      pub code_means : (args : List (Datum F)) → code.meaning file task args ≡ body file m f args
+      code_means args =
+          whole_renamed Together file (map (function_of m) (helpers_of m)) (map (code.helper_with task.helpers task.names) task.helpers) at_same_places
+          (function_of m f) (code.function_with task.helpers task.names task.signature.parameters task.body) as_task args
 
     pub is_code : IsCodeOf m f task
-    is_code = record { full_name = made.named; parameters = ap (λ x. x.parameters) made.parts.signed; block = made.parts.bodied; resolves = made.resolves; means = code_means }
+    is_code = record { full_name = made.named; parameters = ap (λ x. x.parameters) made.parts.signed; block = made.parts.bodied; resolves = made.resolves; means = code_means own }

@@ -1,8 +1,6 @@
 -- The code of tasks under their full names.
 use Rattle.std.proofs.Common.{◌≡◌, ℕ, Bool, true, false, List, [], ◌∷◌, ◌++◌, Option, None, Some, Result, Ok, Err, OnOk, refl, sym, ap, subst, ◌∙◌}
 use Rattle.std.proofs.Math.Path.{fun_ext}
-use Rattle.std.specs.Arc.{arc_value}
-use Rattle.std.specs.declared.sync.Arc.{Arc}
 use Rattle.std.specs.Option.{option_map, option_or}
 use Rattle.std.specs.Prelude.{if◌then◌else◌}
 use Rattle.std.specs.Str.{bytes_eq}
@@ -13,10 +11,11 @@ use Rattle.rd_routine.specs.declared.routine.Callee.{Callee}
 use Rattle.rd_code.specs.declared.named.Helper.{Helper}
 use Rattle.rd_code.specs.declared.code.TaskCode.{TaskCode}
 use Rattle.rd_registry.specs.declared.functions.Found.{Found}
+use Rattle.rd_registry.specs.declared.task.Task.{Task}
 use Rattle.rd_registry.specs.Bodies.{find_task, is_named, task_among, task_name_by}
 use Rattle.rd_registry.specs.Codes.{block_of, signature_of}
 use Rattle.rd_registry.specs.Functions.{callee_in, found_among, helper_at}
-use Rattle.rd_registry.specs.Registry.{Coded, CodedOf, IsMade}
+use Rattle.rd_registry.specs.Registry.{Coded, CodedOf, IsMade, code_at}
 use Rattle.rd_registry.specs.Resolved.{HasParts, Resolves}
 use Rattle.rd_registry.proofs.Meanings.{is_code}
 
@@ -28,29 +27,29 @@ module _ (helpers : List ℕ → Option Helper) (callees : List ℕ → Option C
   abbrev Rule : Option Function → Option TaskCode → Type 0
   Rule = Coded helpers callees space
 
-  coded_by : {A : Type 0} (b : Bool) (found : Option Function) (old : Option (Arc TaskCode A)) (f : Function) (arc : Arc TaskCode A) → IsMade helpers callees space f (arc_value arc) → Rule found (option_map arc_value old)
-      → Rule (option_or found (if b then Some f else None)) (option_map arc_value (option_or old (if b then Some arc else None)))
-  coded_by true None None f arc made u = made
-  coded_by true None (Some a) f arc made u = absurd u
-  coded_by true (Some g) None f arc made u = absurd u
-  coded_by true (Some g) (Some a) f arc made u = u
-  coded_by false None None f arc made u = tt
-  coded_by false None (Some a) f arc made u = absurd u
-  coded_by false (Some g) None f arc made u = absurd u
-  coded_by false (Some g) (Some a) f arc made u = u
+  coded_by : (b : Bool) (found : Option Function) (old : Option Task) (f : Function) (task : Task) → IsMade helpers callees space f (code_at task) → Rule found (option_map code_at old)
+      → Rule (option_or found (if b then Some f else None)) (option_map code_at (option_or old (if b then Some task else None)))
+  coded_by true None None f task made u = made
+  coded_by true None (Some a) f task made u = absurd u
+  coded_by true (Some g) None f task made u = absurd u
+  coded_by true (Some g) (Some a) f task made u = u
+  coded_by false None None f task made u = tt
+  coded_by false None (Some a) f task made u = absurd u
+  coded_by false (Some g) None f task made u = absurd u
+  coded_by false (Some g) (Some a) f task made u = u
 
   -- one task more under its full name
-  pub coded_put : {A : Type 0} (old new : List ℕ → Option (Arc TaskCode A)) (f : Function) (full : List ℕ) (arc : Arc TaskCode A) → task_name_by space f.name.text f.task ≡ Some full → IsMade helpers callees space f (arc_value arc)
-      → ((text : List ℕ) → new text ≡ option_or (old text) (if bytes_eq text full then Some arc else None))
-      → (text : List ℕ) (found : Option Function) → Rule found (option_map arc_value (old text)) → Rule (option_or found (if is_named text (task_name_by space f.name.text f.task) then Some f else None)) (option_map arc_value (new text))
-  coded_put old new f full arc named made put text found u =
-      subst (λ o. Rule (option_or found (if is_named text (task_name_by space f.name.text f.task) then Some f else None)) (option_map arc_value o)) (sym (put text))
-      (subst (λ n. Rule (option_or found (if is_named text n then Some f else None)) (option_map arc_value (option_or (old text) (if bytes_eq text full then Some arc else None)))) (sym named)
-      (coded_by (bytes_eq text full) found (old text) f arc made u))
+  pub coded_put : (old new : List ℕ → Option Task) (f : Function) (full : List ℕ) (task : Task) → task_name_by space f.name.text f.task ≡ Some full → IsMade helpers callees space f (code_at task)
+      → ((text : List ℕ) → new text ≡ option_or (old text) (if bytes_eq text full then Some task else None))
+      → (text : List ℕ) (found : Option Function) → Rule found (option_map code_at (old text)) → Rule (option_or found (if is_named text (task_name_by space f.name.text f.task) then Some f else None)) (option_map code_at (new text))
+  coded_put old new f full task named made put text found u =
+      subst (λ o. Rule (option_or found (if is_named text (task_name_by space f.name.text f.task) then Some f else None)) (option_map code_at o)) (sym (put text))
+      (subst (λ n. Rule (option_or found (if is_named text n then Some f else None)) (option_map code_at (option_or (old text) (if bytes_eq text full then Some task else None)))) (sym named)
+      (coded_by (bytes_eq text full) found (old text) f task made u))
 
-  pub made_of : {A : Type 0} (f : Function) (full copied : List ℕ) (code : TaskCode) (arc : Arc TaskCode A) → task_name_by space f.name.text f.task ≡ Some full → copied ≡ full → HasParts copied (signature_of f) (block_of f.body) code → Resolves helpers callees code
-      → arc_value arc ≡ code → IsMade helpers callees space f (arc_value arc)
-  made_of f full copied code arc named same parts resolves is =
+  pub made_of : (f : Function) (full copied : List ℕ) (code : TaskCode) (task : Task) → task_name_by space f.name.text f.task ≡ Some full → copied ≡ full → HasParts copied (signature_of f) (block_of f.body) code → Resolves helpers callees code
+      → code_at task ≡ code → IsMade helpers callees space f (code_at task)
+  made_of f full copied code task named same parts resolves is =
       subst (IsMade helpers callees space f) (sym is) (record { named = named ∙ ap Some (sym (parts.named ∙ same)); parts = record { named = refl; signed = parts.signed; bodied = parts.bodied }; resolves = resolves })
 
   or_nothing : {A : Type 0} (o : Option A) → option_or o None ≡ o

@@ -4,3 +4,8 @@ pub mod Functions
 pub mod Reach
 pub mod Resolved
 pub mod Registry
+pub mod Words
+pub mod Structures
+pub mod Fresh
+pub mod Fits
+pub mod Footprint

@@ -1,10 +1,9 @@
 -- What a registry has of a module.
-use Rattle.std.specs.Prelude.{◌≡◌, ℕ, List, map, Option, None, Some}
+use Rattle.std.specs.Prelude.{◌≡◌, ℕ, ◌<◌, List, map, Option, None, Some, slice_get}
 use Rattle.std.specs.Arc.{arc_value}
-use Rattle.std.specs.declared.sync.Arc.{Arc}
 use Rattle.std.specs.Option.{option_map}
 use Rattle.std.specs.Str.{bytes_eq}
-use Rattle.indexmap.specs.IndexMap.{IndexMap, get}
+use Rattle.indexmap.specs.IndexMap.{IndexMap, get, index_map_len, values}
 use Rattle.rd_value.specs.declared.value.FileValue.{FileValue}
 use Rattle.rd_value.specs.declared.value.Datum.{Datum}
 use Rattle.rd_tree.specs.declared.tree.Function.{Function}
@@ -14,6 +13,8 @@ use Rattle.rd_routine.specs.declared.routine.Callee.{Callee}
 use Rattle.rd_code.specs.declared.named.Helper.{Helper}
 use Rattle.rd_code.specs.declared.code.TaskCode.{TaskCode}
 use Rattle.rd_registry.specs.declared.registry.Registry.{Registry}
+use Rattle.rd_registry.specs.declared.task.Task.{Task}
+use Rattle.rd_registry.specs.declared.task.TaskId.{TaskId}
 use Rattle.rd_interpreter.specs.Running.{own}
 use Rattle.rd_body.specs.Code.{meaning}
 use Rattle.rd_registry.specs.Bodies.{body, find_task, task_name_by}
@@ -33,8 +34,11 @@ Coded helpers callees space None None = Unit {0}
 Coded helpers callees space (Some f) (Some code) = IsMade helpers callees space f code
 Coded helpers callees space f code = ⊥
 
-abbrev pub code_in : {A S : Type 0} → IndexMap (List ℕ) (Arc TaskCode A) S → List ℕ → Option TaskCode
-code_in tasks text = option_map arc_value (get bytes_eq tasks text)
+abbrev pub code_at : Task → TaskCode
+code_at task = arc_value task.code
+
+abbrev pub code_in : {S : Type 0} → IndexMap (List ℕ) Task S → List ℕ → Option TaskCode
+code_in tasks text = option_map code_at (get bytes_eq tasks text)
 
 -- the helpers of a module, and what its functions are to those that call them, by their names
 abbrev pub helpers_in : Module → List ℕ → Option Helper
@@ -60,3 +64,20 @@ CodedOf m f code = ⊥
 pub record Registers (m : Module) (r : Registry) : Type 0 where
   pub functions : (text : List ℕ) → get bytes_eq r.functions text ≡ found_among (first_space m.namespaces) 0 m.functions text
   pub tasks : (text : List ℕ) → CodedOf m (find_task m text) (code_in r.tasks text)
+
+-- the registry gave this number
+abbrev pub HasTask : Registry → TaskId → Type 0
+HasTask r task = task.0 < index_map_len r.tasks
+
+-- the code of the task of a number
+abbrev pub code_of : Registry → TaskId → Option TaskCode
+code_of r task = option_map code_at (slice_get (values r.tasks) task.0)
+
+-- The number is that of the module's task of this full name.
+pub record IsTaskOf (m : Module) (r : Registry) (full_name : List ℕ) (task : TaskId) : Type 0 where
+  pub function : Function
+  pub found : find_task m full_name ≡ Some function
+  pub code : TaskCode
+  pub named : code.full_name ≡ full_name
+  pub coded : code_of r task ≡ Some code
+  pub is : IsCodeOf m function code

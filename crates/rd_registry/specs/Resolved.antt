@@ -11,6 +11,7 @@ use Rattle.rd_tree.specs.declared.tree.Statement.{Statement}
 use Rattle.rd_names.specs.Uses.{joined}
 use Rattle.rd_routine.specs.declared.routine.Callee.{Callee}
 use Rattle.rd_code.specs.declared.named.Helper.{Helper}
+use Rattle.rd_code.specs.declared.named.NamedUse.{NamedUse}
 use Rattle.rd_code.specs.declared.code.TaskCode.{TaskCode}
 use Rattle.rd_registry.specs.declared.functions.Found.{Found}
 use Rattle.rd_registry.specs.Codes.{outside, use_with}
@@ -45,14 +46,17 @@ pub record HasParts (full_name : List ℕ) (signature : Signature) (body : List 
 abbrev pub AreAscending : List (List ℕ) → Type 0
 AreAscending = IsStrictlySortedBy (slice_cmp nat_cmp)
 
--- The code's helpers are those that its body reaches, and its names those that aren't local in its body and its helpers. Both ascend.
-pub record Resolves (helpers : List ℕ → Option Helper) (callees : List ℕ → Option Callee) (code : TaskCode) : Type 0 where
+-- The helpers are those that the block reaches, and the uses are of the names that aren't local in it and in them. Both ascend.
+pub record AreResolved (helpers : List ℕ → Option Helper) (callees : List ℕ → Option Callee) (block : List (Statement (List ℕ))) (found : List Helper) (used : List NamedUse) : Type 0 where
   pub names : List (List ℕ)
-  pub reached : AreReached helpers code.body names
+  pub reached : AreReached helpers block names
   pub ascend : AreAscending names
-  pub there : code.helpers ≡ helpers_at helpers names
+  pub there : found ≡ helpers_at helpers names
   pub texts : List (List ℕ)
-  pub all : (text : List ℕ) → Contains (all_outside code.body code.helpers) text → Contains texts text
-  pub only : (text : List ℕ) → Contains texts text → Contains (all_outside code.body code.helpers) text
+  pub all : (text : List ℕ) → Contains (all_outside block found) text → Contains texts text
+  pub only : (text : List ℕ) → Contains texts text → Contains (all_outside block found) text
   pub texts_ascend : AreAscending texts
-  pub uses : code.names ≡ map (use_with callees) texts
+  pub uses : used ≡ map (use_with callees) texts
+
+abbrev pub Resolves : (List ℕ → Option Helper) → (List ℕ → Option Callee) → TaskCode → Type 0
+Resolves helpers callees code = AreResolved helpers callees code.body code.helpers code.names

@@ -6,6 +6,8 @@ mod functions;
 pub mod laws;
 mod reach;
 mod registry;
+mod task;
 mod tree;
 
 pub use registry::{Registry, register};
+pub use task::TaskId;

@@ -44,7 +44,7 @@ fn push_pairs(line: &mut String, pairs: &[(Value, Expr)]) -> Option<()> {
     Some(())
 }
 
-/// A value as it is printed, or what a call, a list or a dict that isn't settled holds.
+/// A value as it is printed, or what a call, an operator, a list or a dict that isn't settled holds.
 #[cycle(shown)]
 fn push_expr(line: &mut String, expr: &Expr) -> Option<()> {
     match expr {
@@ -63,6 +63,12 @@ fn push_expr(line: &mut String, expr: &Expr) -> Option<()> {
             push_pairs(line, pairs.as_slice())?;
             line.push_str("}").ok()
         }
+        Expr::Op { op, parts } => {
+            line.push_str(op.text()).ok()?;
+            line.push_str("(").ok()?;
+            push_parts(line, parts.as_slice())?;
+            line.push_str(")").ok()
+        }
         _ => line.push_str("another expression").ok(),
     }
 }
@@ -78,7 +84,7 @@ fn push_reduction(line: &mut String, reduction: &Reduction) -> Option<()> {
     }
 }
 
-fn read(alloc: Global, source: &str) -> Option<Registry> {
+pub fn read(alloc: Global, source: &str) -> Option<Registry> {
     let tokens = lex(alloc, source.as_bytes()).ok()?;
     match parse(alloc, &tokens) {
         Ok(module) => {
@@ -106,7 +112,7 @@ fn ran(alloc: Global, code: &Arc<TaskCode, Global>, args: Values) -> Option<Fini
 fn run(alloc: Global, registry: &Registry, arguments: &[Value]) -> Option<String> {
     let name = Text::from_str(alloc, "main").ok()?;
     let args = Items::from_slice(alloc, arguments).ok()?;
-    let finished = ran(alloc, registry.code(&name)?, args)?;
+    let finished = ran(alloc, registry.code(registry.find(&name)?), args)?;
     let mut line = String::new(alloc);
     let pushed = push_reduction(&mut line, finished.reduction());
     drop(finished);

@@ -4,12 +4,16 @@
 //! - `arguments.txt`: the same, where the argument `e` is an error and `g` is a file.
 //! - `classes.txt`: a line is a class, which `main` raises with the text `t`.
 //! - `bodies.txt`: a source stands behind each line of `-- ` and words.
+//! - `structures.txt`: a source stands behind each line of `-- ` and words. The answer is the structure of its task `one`, and the digest.
+//! - `changes.txt`: the same with an edited source behind the line that begins with `-> `. The answer is whether the task `one` has the same digest there.
+//! - `words.txt`: the same with a word behind `-> `. The answer is the full name of the task that it names.
 //! - `steps.txt`: a line is statements of `main` with `;` between them, ` | `, and how many steps they take. In front of them stand statements that leave just so many steps, and then one fewer.
 #![tactic(auto)]
 
 mod answers;
 mod arguments;
 mod steps;
+mod tasks;
 
 use answers::answer;
 use std::alloc::Global;
@@ -23,10 +27,13 @@ enum Rows {
     Arguments,
     Classes,
     Bodies,
+    Structures,
+    Changes,
+    Words,
     Steps,
 }
 
-const FILES: [(&str, Rows); 10] = [
+const FILES: [(&str, Rows); 13] = [
     ("operators.txt", Rows::Expressions),
     ("displays.txt", Rows::Expressions),
     ("builtins.txt", Rows::Expressions),
@@ -36,6 +43,9 @@ const FILES: [(&str, Rows); 10] = [
     ("arguments.txt", Rows::Arguments),
     ("classes.txt", Rows::Classes),
     ("bodies.txt", Rows::Bodies),
+    ("structures.txt", Rows::Structures),
+    ("changes.txt", Rows::Changes),
+    ("words.txt", Rows::Words),
     ("steps.txt", Rows::Steps),
 ];
 
@@ -60,6 +70,9 @@ fn row_answer(alloc: Global, rows: Rows, row: &str) -> Option<String> {
         Rows::Arguments => arguments::with_arguments(alloc, row),
         Rows::Classes => class(alloc, row),
         Rows::Bodies => answer(alloc, row, &[]),
+        Rows::Structures => tasks::structure(alloc, row),
+        Rows::Changes => tasks::change(alloc, row),
+        Rows::Words => tasks::word(alloc, row),
         Rows::Steps => steps::with_steps(alloc, row),
     }
 }
@@ -77,7 +90,10 @@ fn shortened(alloc: Global, answer: String) -> Option<String> {
 fn show_row(rt: &HostRuntime, rows: Rows, title: &str, row: &str) -> Option<()> {
     match row_answer(rt.alloc(), rows, row) {
         Some(answer) => {
-            let answer = shortened(rt.alloc(), answer)?;
+            let answer = match rows {
+                Rows::Structures => answer,
+                _ => shortened(rt.alloc(), answer)?,
+            };
             println!(rt; "{title} => {answer}").ok()
         }
         None => println!(rt; "{title} => no answer").ok(),
@@ -103,7 +119,9 @@ fn show_blocks(rt: &HostRuntime, rows: Rows, text: &str) -> Option<()> {
 fn show_file(rt: &HostRuntime, name: &str, rows: Rows) -> Option<()> {
     let text = fs::read_to_string(rt, name).ok()?;
     match rows {
-        Rows::Bodies => show_blocks(rt, rows, text.as_str()),
+        Rows::Bodies | Rows::Structures | Rows::Changes | Rows::Words => {
+            show_blocks(rt, rows, text.as_str())
+        }
         _ => show_lines(rt, rows, text.as_str()),
     }
 }

@@ -21,18 +21,18 @@ use Rattle.rd_top.specs.declared.disk.Found.{Found}
 use Rattle.rd_top.specs.declared.disk.Found.TheVariants as found_
 use Rattle.rd_top.specs.declared.serial.Ending.{Ending}
 use Rattle.rd_top.specs.declared.serial.Ending.TheVariants as ending
-use Rattle.rd_top.specs.Arguments.{plain, HoldNoFiles}
+use Rattle.rd_top.specs.Arguments.{HoldNoFiles}
 use Rattle.rd_top.specs.Command.{Argument, IsArgument, AreArguments, IsRun}
 use Rattle.rd_top.specs.Disk.{longest, found}
 use Rattle.rd_top.specs.Files.{Files}
 use Rattle.rd_top.specs.Source.{IsWorkflow, IsRefused}
-use Rattle.rd_top.specs.Tasks.{find_word}
+use Rattle.rd_registry.specs.Words.{find_word}
 use Rattle.rd_top.specs.Evaluating.{answer_of}
-use Rattle.rd_top.specs.Fits.{Fits, FreshGives}
-use Rattle.rd_top.specs.Fresh.{Answer, Gives, Failed, Deep}
+use Rattle.rd_registry.specs.Fits.{Fits, FreshGives}
+use Rattle.rd_registry.specs.Fresh.{Answer, Gives, Failed, Deep}
 use Rattle.rd_top.specs.Running.{own}
 use Rattle.rd_top.specs.Shown.{value_line, failure_line}
-use Rattle.rd_top.specs.Printed.{given, root, IsShown, ShowsFresh, PrintedIsFresh, outcome_line, outcome_status, line_of, status_of}
+use Rattle.rd_top.specs.Printed.{root, IsShown, ShowsFresh, PrintedIsFresh, outcome_line, outcome_status, line_of, status_of}
 use Rattle.rd_top.specs.Answered.{erased, OfTask, OfModule, OfText, OfFiles, Comes, Written, Answered, Completes}
 use Rattle.rd_top.proofs.Given.{one_list}
 use Rattle.rd_top.proofs.Erased.{gives_erased, erased_line}

@@ -1,24 +1,35 @@
 -- Fresh evaluation on the model's files gives what the program's does, with digests in place of texts.
-use Rattle.std.proofs.Common.{◌≡◌, ◌≢◌, ℕ, zero, suc, le_refl, List, [], ◌∷◌, map, Option, None, Some, Result, Ok, Err, refl, sym, ap, ◌∙◌}
+use Rattle.std.proofs.Common.{◌≡◌, ◌≢◌, ℕ, zero, suc, le_refl, Bool, true, false, List, [], ◌∷◌, map, Option, None, Some, Result, Ok, Err, refl, sym, ap, ◌∙◌}
+use Rattle.std.specs.Prelude.{if◌then◌else◌}
+use Rattle.std.specs.Option.{option_map}
 use Rattle.rd_value.specs.declared.value.ErrorValue.{ErrorValue}
 use Rattle.rd_value.specs.declared.value.FileValue.{FileValue}
 use Rattle.rd_value.specs.declared.value.Datum.{Datum}
+use Rattle.rd_value.specs.declared.class.Class.{Class}
+use Rattle.rd_value.specs.declared.failure.Failure.{Failure}
+use Rattle.rd_value.specs.declared.expr.OpKind.{OpKind}
 use Rattle.rd_value.specs.declared.expr.Lazy.{Lazy, out-Lazy}
 use Rattle.rd_value.specs.declared.expr.Lazy.TheOpen.{Lazy-F}
 use Rattle.rd_value.specs.Bind.{bind}
+use Rattle.rd_value.specs.Expand.{expand_map, expand_catch}
+use Rattle.rd_value.specs.Truth.{truth}
 use Rattle.rd_value.specs.Model.{ModelValue, ModelExpr, file_of}
 use Rattle.rd_value.specs.Erase.{with_files, with_files_expr, with_files_key, with_files_keyword, carried, carried_all, carried_expr, erase, erase_expr}
 use Rattle.rd_value.proofs.Erased.{repr_with_files}
 use Rattle.rd_value.proofs.ErasedBind.{bind_with_files}
+use Rattle.rd_value.proofs.ErasedCompare.{truth_with_files}
+use Rattle.rd_value.proofs.ErasedExpand.{expand_map_with_files, expand_catch_with_files}
+use Rattle.rd_value.proofs.ErasedOperators.{applied_with_files}
+use Rattle.rd_meaning.specs.Step.{error_of}
 use Rattle.rd_tree.specs.declared.tree.Function.{Function}
 use Rattle.rd_tree.specs.declared.tree.Module.{Module}
 use Rattle.rd_registry.specs.Bodies.{find_task, signature_of, body}
-use Rattle.rd_top.specs.Fits.{FreshGives}
-use Rattle.rd_top.specs.Fresh as fresh
-use Rattle.rd_top.specs.Fresh.{Answer, Gives, Failed, Deep, Out, Arguments, answer_map, failing, join, on_answer, then_, gathered, alone, beside, second, paired, parts, seconds, arguments, made, on_body, entered, call, calling, step, at_zero, run, fresh}
+use Rattle.rd_registry.specs.Fits.{FreshGives}
+use Rattle.rd_registry.specs.Fresh as fresh
+use Rattle.rd_registry.specs.Fresh.{Answer, Gives, Failed, Deep, Out, Arguments, answer_map, failing, join, on_answer, then_, gathered, alone, beside, second, paired, parts, seconds, arguments, made, on_body, given, recovering, recovered, entered, call, calling, step, at_zero, run, fresh}
 use Rattle.rd_top.specs.Running.{own}
 use Rattle.rd_top.specs.Shown.{line, value_line}
-use Rattle.rd_top.proofs.Deeper.{deeper}
+use Rattle.rd_registry.proofs.Deeper.{deeper}
 use Rattle.rd_top.proofs.ErasedLayers.{layer_with, out_with_files_expr, pair_with, kept_list, kept_dict}
 use Rattle.rd_registry.proofs.ErasedModules.{signature_with_files, body_with_files}
 
@@ -84,6 +95,13 @@ module _ {F G : Type 0} (h : F → G) where
   bound_with file f args =
       ap (λ ps. bind file ps (map (with_files h) args.0) (map (with_files_keyword h) args.1)) (sym (signature_with_files h f)) ∙ bind_with_files h file (signature_of f) args.0 args.1
 
+  -- what comes of a failure, where a value stays as it is
+  otherwise_with : (a : Answer (Datum F)) (fail : Failure → Out F (Datum F)) (fail' : Failure → Out G (Datum G)) → ((f : Failure) → Answers (fail f) (fail' f))
+      → Answers (on_answer a given fail) (on_answer (answer_map (with_files h) a) given fail')
+  otherwise_with (Gives v) fail fail' u = refl
+  otherwise_with (Failed f) fail fail' u = u f
+  otherwise_with Deep fail fail' u = refl
+
   made_with : (r : Result (Datum F) ErrorValue) → Answers (made r) (made (carried h r))
   made_with (Ok v) = refl
   made_with (Err e) = refl
@@ -102,7 +120,31 @@ module _ {F G : Type 0} (h : F → G) where
     all_with es ks =
         rw (parts_with es, keywords_with ks) (join_with paired paired (map (with_files h)) (map (with_files_keyword h)) arguments_with (λ a b. refl) (parts ev es).answer (seconds ev ks).answer)
 
+    pub bodies_with : (origin : List ℕ) (r : Result (Lazy F) ErrorValue) → Answers (on_body ev origin r) (on_body ev' origin (carried_expr h r))
+    bodies_with origin (Ok e) = u e
+    bodies_with origin (Err e) = refl
+
+    recovering_with : (f : Failure) (o : Option (Lazy F)) → Answers (recovering ev f o) (recovering ev' f (option_map (with_files_expr h) o))
+    recovering_with f (Some e) = u e
+    recovering_with f None = refl
+
+    recovered_with : (class : Class) (recover : List ℕ) (f : Failure) → Answers (recovered ev class recover f) (recovered ev' class recover f)
+    recovered_with class recover f = ap (λ o. (recovering ev' f o).answer) (expand_catch_with_files h class recover (error_of f)) ∙ recovering_with f (expand_catch class recover (error_of f))
+
+    pub either_with : (b : Bool) (x y : Lazy F) → Answers (ev (if b then x else y)) (ev' (if b then with_files_expr h x else with_files_expr h y))
+    either_with true x y = u x
+    either_with false x y = u y
+
+    pub branch_with : (x y : Lazy F) (v : Datum F) → Answers (ev (if truth v then x else y)) (ev' (if truth (with_files h v) then with_files_expr h x else with_files_expr h y))
+    branch_with x y v = ap (λ b. (ev' (if b then with_files_expr h x else with_files_expr h y)).answer) (truth_with_files h v) ∙ either_with (truth v) x y
+
     module _ (file : G → FileValue) where
+      operated_with : (kind : OpKind) (vs : List (Datum F)) → Answers (fresh.operated (through file) kind vs) (fresh.operated file kind (map (with_files h) vs))
+      operated_with kind vs = ap (λ r. (made {F = G} r).answer) (applied_with_files h file kind vs) ∙ made_with _
+
+      pub mapped_with : (task : List ℕ) (v : Datum F) → Answers (fresh.mapped (through file) ev task v) (fresh.mapped file ev' task (with_files h v))
+      mapped_with task v = ap (λ r. (on_body ev' [] r).answer) (expand_map_with_files h file task v) ∙ bodies_with [] (expand_map (through file) task v)
+
       listed_with : (vs : List (Datum F)) → Answers (fresh.listed (through file) vs) (fresh.listed file (map (with_files h) vs))
       listed_with vs = ap (λ r. (made {F = G} r).answer) (kept_list h file vs) ∙ made_with _
 
@@ -115,16 +157,17 @@ module _ {F G : Type 0} (h : F → G) where
       step_with calls calls' c (Lazy-F.ListOf es) = after_with (map (with_files h)) (parts ev es) (parts ev' (map (with_files_expr h) es)) (fresh.listed (through file)) (fresh.listed file) (parts_with es) listed_with
       step_with calls calls' c (Lazy-F.DictOf ps) =
           rw (items_with ps) (after_with (map (pair_with h)) (seconds ev ps) (seconds ev' (map item_with ps)) (fresh.keyed (through file)) (fresh.keyed file) (pairs_with ps) keyed_with)
+      step_with calls calls' c (Lazy-F.Op kind es) = after_with (map (with_files h)) (parts ev es) (parts ev' (map (with_files_expr h) es)) (fresh.operated (through file) kind) (fresh.operated file kind) (parts_with es) (operated_with kind)
+      step_with calls calls' c (Lazy-F.Cond test x y) = after_with (with_files h) (ev test) (ev' (with_files_expr h test)) _ _ (u test) (branch_with x y)
+      step_with calls calls' c (Lazy-F.Map task list) = after_with (with_files h) (ev list) (ev' (with_files_expr h list)) (fresh.mapped (through file) ev task) (fresh.mapped file ev' task) (u list) (mapped_with task)
+      step_with calls calls' c (Lazy-F.Catch tried class recover) =
+          ap (λ a. (on_answer a given (recovered ev' class recover)).answer) (u tried) ∙ otherwise_with (ev tried).answer (recovered ev class recover) (recovered ev' class recover) (recovered_with class recover)
       step_with calls calls' c (Lazy-F.Val v) = refl
-      step_with calls calls' c x = refl
+      step_with calls calls' c (Lazy-F.Input path) = refl
 
       module _ (m : Module) (task : List ℕ) where
-        bodies_with : (r : Result (Lazy F) ErrorValue) → Answers (on_body ev task r) (on_body ev' task (carried_expr h r))
-        bodies_with (Ok e) = u e
-        bodies_with (Err e) = refl
-
         entered_with : (f : Function) (r : Result (List (Datum F)) ErrorValue) → Answers (entered (through file) m ev task f r) (entered file m ev' task f (carried_all h r))
-        entered_with f (Ok args) = ap (λ r. (on_body ev' task r).answer) (body_with_files h file m f args) ∙ bodies_with (body (through file) m f args)
+        entered_with f (Ok args) = ap (λ r. (on_body ev' task r).answer) (body_with_files h file m f args) ∙ bodies_with task (body (through file) m f args)
         entered_with f (Err e) = refl
 
         call_with : (f : Option Function) (args : Arguments F) → Answers (call (through file) m ev task f args) (call file m ev' task f (arguments_with args))

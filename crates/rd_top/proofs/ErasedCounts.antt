@@ -1,23 +1,32 @@
 -- Evaluation on the model's files meets as many expressions as the program's does, so one fits where the other does.
-use Rattle.std.proofs.Common.{◌≡◌, ℕ, zero, suc, ◌+◌, ◌≤◌, List, [], ◌∷◌, ◌++◌, map, Option, None, Some, Result, Ok, Err, refl, sym, ap, subst, ◌∙◌, arith}
-use Rattle.std.specs.Prelude.{sum}
+use Rattle.std.proofs.Common.{◌≡◌, ℕ, zero, suc, ◌+◌, ◌≤◌, Bool, true, false, List, [], ◌∷◌, ◌++◌, map, Option, None, Some, Result, Ok, Err, refl, sym, ap, subst, ◌∙◌, arith}
+use Rattle.std.specs.Prelude.{sum, if◌then◌else◌}
+use Rattle.std.specs.Option.{option_map}
 use Rattle.rd_value.specs.declared.value.ErrorValue.{ErrorValue}
 use Rattle.rd_value.specs.declared.value.FileValue.{FileValue}
 use Rattle.rd_value.specs.declared.value.Datum.{Datum}
 use Rattle.rd_value.specs.declared.value.Datum.TheVariants as value
+use Rattle.rd_value.specs.declared.class.Class.{Class}
+use Rattle.rd_value.specs.declared.failure.Failure.{Failure}
+use Rattle.rd_value.specs.declared.expr.OpKind.{OpKind}
 use Rattle.rd_value.specs.declared.expr.Lazy.{Lazy, out-Lazy}
 use Rattle.rd_value.specs.declared.expr.Lazy.TheOpen.{Lazy-F}
 use Rattle.rd_value.specs.Bind.{bind}
 use Rattle.rd_value.specs.Model.{ModelExpr, file_of}
-use Rattle.rd_value.specs.Operators.{kept}
+use Rattle.rd_value.specs.Expand.{expand_map, expand_catch}
+use Rattle.rd_value.specs.Operators.{applied, kept}
+use Rattle.rd_value.specs.Truth.{truth}
+use Rattle.rd_value.proofs.ErasedCompare.{truth_with_files}
+use Rattle.rd_value.proofs.ErasedExpand.{expand_map_with_files, expand_catch_with_files}
+use Rattle.rd_meaning.specs.Step.{error_of}
 use Rattle.rd_value.specs.Erase.{with_files, with_files_key, with_file_expr, with_files_expr, carried_all, carried_expr, erase_expr}
 use Rattle.rd_value.proofs.ErasedExprs.{fold_with_files_expr}
 use Rattle.rd_tree.specs.declared.tree.Function.{Function}
 use Rattle.rd_tree.specs.declared.tree.Module.{Module}
 use Rattle.rd_registry.specs.Bodies.{find_task, signature_of, body}
-use Rattle.rd_top.specs.Fits.{most_nested, most_met, counts, lazies_at, lazies, count_met, Fits}
-use Rattle.rd_top.specs.Fresh as fresh
-use Rattle.rd_top.specs.Fresh.{Event, Answer, Gives, Failed, Deep, Out, Arguments, answer_map, failing, on_answer, then_, gathered, alone, beside, second, parts, seconds, arguments, made, go_on, on_body, visit, entered, call, calling, step, at_zero, run, trace}
+use Rattle.rd_registry.specs.Fits.{most_nested, most_met, counts, lazies_at, lazies, count_met, Fits}
+use Rattle.rd_registry.specs.Fresh as fresh
+use Rattle.rd_registry.specs.Fresh.{Event, Answer, Gives, Failed, Deep, Out, Arguments, answer_map, failing, on_answer, then_, gathered, alone, beside, second, parts, seconds, arguments, made, go_on, on_body, given, recovering, recovered, visit, entered, call, calling, step, at_zero, run, trace}
 use Rattle.rd_top.specs.Running.{own}
 use Rattle.rd_top.proofs.Evaluated.{count-append, count_under}
 use Rattle.rd_top.proofs.ErasedLayers.{layer_with, out_with_files_expr, pair_with}
@@ -68,6 +77,14 @@ module _ {F G : Type 0} (h : F → G) where
   after_count j o p go go' e i u =
       append_count o.events _ p.events _ i (ap (λ a. count_met (on_answer a go' failing).events) e ∙ answered_count j o.answer go go' u)
 
+  -- what comes of a failure, where a value stays as it is
+  otherwise_count : (a : Answer (Datum F)) (fail : Failure → Out F (Datum F)) (fail' : Failure → Out G (Datum G)) → ((f : Failure) → Counts (fail f) (fail' f))
+      → Counts (on_answer a given fail) (on_answer (answer_map (with_files h) a) given fail')
+  unfolding count_met
+  otherwise_count (Gives v) fail fail' u = refl
+  otherwise_count (Failed f) fail fail' u = u f
+  otherwise_count Deep fail fail' u = refl
+
   module _ (ev : Lazy F → Out F (Datum F)) (ev' : Lazy G → Out G (Datum G)) (u : Evaluators h ev ev') (c : (e : Lazy F) → Counts (ev e) (ev' (with_files_expr h e))) where
     parts_count : (es : List (Lazy F)) → Counts (parts ev es) (parts ev' (map (with_files_expr h) es))
     parts_count es = gathered_count alone alone ev ev' (with_files_expr h) c es
@@ -87,7 +104,29 @@ module _ {F G : Type 0} (h : F → G) where
     body_count task (Ok e) = met_count e
     body_count task (Err e) = refl
 
+    recovering_count : (f : Failure) (o : Option (Lazy F)) → Counts (recovering ev f o) (recovering ev' f (option_map (with_files_expr h) o))
+    unfolding count_met
+    recovering_count f (Some e) = met_count e
+    recovering_count f None = refl
+
+    recovered_count : (class : Class) (recover : List ℕ) (f : Failure) → Counts (recovered ev class recover f) (recovered ev' class recover f)
+    recovered_count class recover f =
+        ap (λ o. count_met (recovering ev' f o).events) (expand_catch_with_files h class recover (error_of f)) ∙ recovering_count f (expand_catch class recover (error_of f))
+
+    either_count : (b : Bool) (x y : Lazy F) → Counts (ev (if b then x else y)) (ev' (if b then with_files_expr h x else with_files_expr h y))
+    either_count true x y = c x
+    either_count false x y = c y
+
+    branch_count : (x y : Lazy F) (v : Datum F) → Counts (ev (if truth v then x else y)) (ev' (if truth (with_files h v) then with_files_expr h x else with_files_expr h y))
+    branch_count x y v = ap (λ b. count_met (ev' (if b then with_files_expr h x else with_files_expr h y)).events) (truth_with_files h v) ∙ either_count (truth v) x y
+
     module _ (file : G → FileValue) where
+      operated_count : (kind : OpKind) (vs : List (Datum F)) → Counts (fresh.operated (through h file) kind vs) (fresh.operated file kind (map (with_files h) vs))
+      operated_count kind vs = made_count (applied file kind (map (with_files h) vs)) ∙ sym (made_count (applied (through h file) kind vs))
+
+      mapped_count : (task : List ℕ) (v : Datum F) → Counts (fresh.mapped (through h file) ev task v) (fresh.mapped file ev' task (with_files h v))
+      mapped_count task v = ap (λ r. count_met (on_body ev' [] r).events) (expand_map_with_files h file task v) ∙ body_count [] (expand_map (through h file) task v)
+
       listed_count : (vs : List (Datum F)) → Counts (fresh.listed (through h file) vs) (fresh.listed file (map (with_files h) vs))
       listed_count vs = made_count (kept file (value.List (map (with_files h) vs))) ∙ sym (made_count (kept (through h file) (value.List vs)))
 
@@ -104,8 +143,15 @@ module _ {F G : Type 0} (h : F → G) where
           after_count (map (with_files h)) (parts ev es) (parts ev' (map (with_files_expr h) es)) (fresh.listed (through h file)) (fresh.listed file) (parts_with h ev ev' u es) (parts_count es) listed_count
       step_count calls calls' d (Lazy-F.DictOf ps) =
           rw (items_with h ps) (after_count (map (pair_with h)) (seconds ev ps) (seconds ev' (map (item_with h) ps)) (fresh.keyed (through h file)) (fresh.keyed file) (pairs_with h ev ev' u ps) (pairs_count ps) keyed_count)
+      step_count calls calls' d (Lazy-F.Op kind es) =
+          after_count (map (with_files h)) (parts ev es) (parts ev' (map (with_files_expr h) es)) (fresh.operated (through h file) kind) (fresh.operated file kind) (parts_with h ev ev' u es) (parts_count es) (operated_count kind)
+      step_count calls calls' d (Lazy-F.Cond test x y) = after_count (with_files h) (ev test) (ev' (with_files_expr h test)) _ _ (u test) (c test) (branch_count x y)
+      step_count calls calls' d (Lazy-F.Map task list) = after_count (with_files h) (ev list) (ev' (with_files_expr h list)) (fresh.mapped (through h file) ev task) (fresh.mapped file ev' task) (u list) (c list) (mapped_count task)
+      step_count calls calls' d (Lazy-F.Catch tried class recover) =
+          append_count (ev tried).events _ (ev' (with_files_expr h tried)).events _ (c tried)
+          (ap (λ a. count_met (on_answer a given (recovered ev' class recover)).events) (u tried) ∙ otherwise_count (ev tried).answer (recovered ev class recover) (recovered ev' class recover) (recovered_count class recover))
       step_count calls calls' d (Lazy-F.Val v) = refl
-      step_count calls calls' d x = refl
+      step_count calls calls' d (Lazy-F.Input path) = refl
 
       module _ (m : Module) (task : List ℕ) where
         entered_count : (f : Function) (r : Result (List (Datum F)) ErrorValue) → Counts (entered (through h file) m ev task f r) (entered file m ev' task f (carried_all h r))

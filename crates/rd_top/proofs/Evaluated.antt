@@ -1,6 +1,6 @@
 -- What an evaluator that counts returns, combinator by combinator.
 use Rattle.std.proofs.Common.{◌≡◌, ℕ, suc, ◌+◌, ◌-◌, ◌<◌, ◌≤◌, ◌^◌, inl, inr, List, [], ◌∷◌, ◌++◌, map, Option, None, Some, Result, Ok, Err, refl, sym, ap, ◌∙◌, subst, arith}
-use Rattle.std.specs.Prelude.{length, min, MatchOption}
+use Rattle.std.specs.Prelude.{length, min, if◌then◌else◌, MatchOption}
 use Rattle.std.specs.Arc.{arc_value}
 use Rattle.std.specs.declared.sync.Arc.{Arc}
 use Rattle.std.proofs.lemmas.List.{length-map}
@@ -9,6 +9,7 @@ use Rattle.rd_value.specs.declared.value.ErrorValue.{ErrorValue}
 use Rattle.rd_value.specs.declared.value.FileValue.{FileValue}
 use Rattle.rd_value.specs.declared.value.Datum.{Datum}
 use Rattle.rd_value.specs.declared.value.Datum.TheVariants as value
+use Rattle.rd_value.specs.declared.expr.OpKind.{OpKind}
 use Rattle.rd_value.specs.declared.expr.Lazy.{Lazy, out-Lazy, roll-out-Lazy}
 use Rattle.rd_value.specs.declared.expr.Lazy.TheViews as made
 use Rattle.rd_value.specs.declared.expr.Lazy.TheVariants as lazy
@@ -16,13 +17,16 @@ use Rattle.rd_value.specs.declared.expr.Lazy.TheOpen.{Lazy-F}
 use Rattle.rd_value.specs.declared.failure.Failure.{Failure}
 use Rattle.rd_value.specs.declared.failure.Outcome.{Outcome}
 use Rattle.rd_value.specs.declared.failure.Outcome.TheVariants as outcome
+use Rattle.rd_value.specs.declared.class.Class.{Class}
 use Rattle.rd_value.specs.declared.class.Class.TheVariants.{NameError}
 use Rattle.rd_value.specs.Bind.{parameters_of, bind}
-use Rattle.rd_value.specs.Operators.{kept}
+use Rattle.rd_value.specs.Expand.{expand_map, expand_catch}
+use Rattle.rd_value.specs.Operators.{applied, kept}
 use Rattle.rd_value.specs.Raise.{raised}
+use Rattle.rd_value.specs.Truth.{truth}
 use Rattle.rd_meaning.specs.declared.step.StepError.{StepError}
 use Rattle.rd_meaning.specs.declared.step.StepError.TheVariants as step_error
-use Rattle.rd_meaning.specs.Step.{failure_in, step_in, ComesTo}
+use Rattle.rd_meaning.specs.Step.{error_of, failure_in, step_in, ComesTo}
 use Rattle.rd_tree.specs.declared.tree.Function.{Function}
 use Rattle.rd_tree.specs.declared.tree.Module.{Module}
 use Rattle.rd_names.specs.Options.{first_space}
@@ -39,10 +43,10 @@ use Rattle.rd_top.specs.Running.{own}
 use Rattle.rd_registry.specs.Bodies.{find_task, signature_of, body}
 use Rattle.rd_registry.specs.Codes.{parameter_of}
 use Rattle.rd_registry.specs.Registry.{IsCodeOf}
-use Rattle.rd_top.specs.Fresh as fresh
-use Rattle.rd_top.specs.Fresh.{Visit, Event, Bound, Unbound, Met, Answer, Gives, Failed, Deep, Out, Arguments, plain, failing, before, join, both, on_answer, then_, inside, under, event, on_body, visit, entered, call, calling, step, at_zero, run}
-use Rattle.rd_top.specs.Fits.{most_met, lazies, met_in, count_met}
-use Rattle.rd_top.specs.Evaluating.{answer_of, answers_of, IsPast, Evaluates, after, at_depth, step_out, arguments_out, parts_out, seconds_out, values_out, body_out, met_out}
+use Rattle.rd_registry.specs.Fresh as fresh
+use Rattle.rd_registry.specs.Fresh.{Visit, Event, Bound, Unbound, Met, Answer, Gives, Failed, Deep, Out, Arguments, plain, failing, before, join, both, on_answer, then_, inside, under, event, on_body, visit, entered, call, calling, step, at_zero, run}
+use Rattle.rd_registry.specs.Fits.{most_met, lazies, met_in, count_met}
+use Rattle.rd_top.specs.Evaluating.{answer_of, answers_of, IsPast, Evaluates, after, at_depth, step_out, arguments_out, parts_out, seconds_out, values_out, body_out, met_out, otherwise, branch_out, mapped_out, recovered_out}
 use Rattle.rd_names.proofs.Walking.{map_both}
 use Rattle.rd_top.proofs.Bound.{bound_length, found_named, some_same}
 
@@ -122,51 +126,13 @@ module _ {A B C X Y Z : Type 0} (f : A → B → C) (view : X → Answer A) (vie
 
 -- ---- one expression
 
--- the other kinds of expression
-abbrev pub IsOther : Lazy-F FileValue (Lazy FileValue) → Type 0
-IsOther (Lazy-F.Val v) = ⊥
-IsOther (Lazy-F.Call t es ks) = ⊥
-IsOther (Lazy-F.ListOf es) = ⊥
-IsOther (Lazy-F.DictOf ps) = ⊥
-IsOther _ = Unit {0}
-
 abbrev pub NoVal : Lazy FileValue → Type 0
 NoVal e = (v : Datum FileValue) → e ≡ lazy.Val v → ⊥
-
-abbrev pub NoCall : Lazy FileValue → Type 0
-NoCall e = (t : List ℕ) (es : List (Lazy FileValue)) (ks : List (List ℕ × Lazy FileValue)) → e ≡ lazy.Call t es ks → ⊥
-
-abbrev pub NoList : Lazy FileValue → Type 0
-NoList e = (es : List (Lazy FileValue)) → e ≡ lazy.ListOf es → ⊥
-
-abbrev pub NoDict : Lazy FileValue → Type 0
-NoDict e = (ps : List (Datum FileValue × Lazy FileValue)) → e ≡ lazy.DictOf ps → ⊥
 
 lazy_layer : (x : Lazy-F FileValue (Lazy FileValue)) → NoVal (made.roll-Lazy FileValue x) → (at_zero x).answer ≡ Deep
 unfolding made.roll-Lazy denote.Hole.Carrier.roll
 lazy_layer (Lazy-F.Val v) nv = absurd (nv v refl)
 lazy_layer x nv = refl
-
-other_layer : (x : Lazy-F FileValue (Lazy FileValue)) → NoVal (made.roll-Lazy FileValue x) → NoCall (made.roll-Lazy FileValue x) → NoList (made.roll-Lazy FileValue x) → NoDict (made.roll-Lazy FileValue x) → IsOther x
-unfolding made.roll-Lazy denote.Hole.Carrier.roll
-other_layer (Lazy-F.Val v) nv nc nl nd = nv v refl
-other_layer (Lazy-F.Call t es ks) nv nc nl nd = nc t es ks refl
-other_layer (Lazy-F.ListOf es) nv nc nl nd = nl es refl
-other_layer (Lazy-F.DictOf ps) nv nc nl nd = nd ps refl
-other_layer x nv nc nl nd = tt
-
-other : (e : Lazy FileValue) → NoVal e → NoCall e → NoList e → NoDict e → IsOther (out-Lazy FileValue e)
-other e nv nc nl nd =
-    let back = sym (roll-out-Lazy FileValue e) in
-    other_layer (out-Lazy FileValue e) (subst NoVal back nv) (subst NoCall back nc) (subst NoList back nl) (subst NoDict back nd)
-
-module _ (calls : List ℕ → Arguments FileValue → Out FileValue (Datum FileValue)) (ev : Lazy FileValue → Out FileValue (Datum FileValue)) where
-  step_deep : (x : Lazy-F FileValue (Lazy FileValue)) → IsOther x → (step own calls ev x).answer ≡ Deep
-  step_deep (Lazy-F.Val v) h = absurd h
-  step_deep (Lazy-F.Call t es ks) h = absurd h
-  step_deep (Lazy-F.ListOf es) h = absurd h
-  step_deep (Lazy-F.DictOf ps) h = absurd h
-  step_deep x h = refl
 
 module _ (m : Module) (e : Lazy FileValue) where
   pub zero_val : (a : ℕ) (v : Datum FileValue) → a ≤ most_met → e ≡ lazy.Val v → Evaluates answer_of (at_depth m 0 e) a a (Ok (outcome.Value v))
@@ -212,15 +178,30 @@ module _ (m : Module) (e : Lazy FileValue) where
     unfolding after seconds_out
     step_dict a b ps r is h = at_layer a b r (Lazy-F.DictOf ps) (ap (out-Lazy FileValue) is ∙ lazy.outs-DictOf ps) h
 
-    pub step_other : (a b : ℕ) → NoVal e → NoCall e → NoList e → NoDict e → Evaluates answer_of (step_out m n e) a b (Err TooLarge)
-    unfolding step_out
-    step_other a b nv nc nl nd = deep_past answer_of (step_out m n e) a b (step_deep calls (at_depth m n) (out-Lazy FileValue e) (other e nv nc nl nd))
+    pub step_op : (a b : ℕ) (kind : OpKind) (es : List (Lazy FileValue)) (r : Result Outcome Stop) → e ≡ lazy.Op kind es → Evaluates answer_of (after (parts_out m n es) (fresh.operated own kind)) a b r → Evaluates answer_of (step_out m n e) a b r
+    unfolding after parts_out
+    step_op a b kind es r is h = at_layer a b r (Lazy-F.Op kind es) (ap (out-Lazy FileValue) is ∙ lazy.outs-Op kind es) h
+
+    pub step_cond : (a b : ℕ) (t x y : Lazy FileValue) (r : Result Outcome Stop) → e ≡ lazy.Cond t x y → Evaluates answer_of (after (at_depth m n t) (branch_out m n x y)) a b r → Evaluates answer_of (step_out m n e) a b r
+    unfolding after branch_out
+    step_cond a b t x y r is h = at_layer a b r (Lazy-F.Cond t x y) (ap (out-Lazy FileValue) is ∙ lazy.outs-Cond t x y) h
+
+    pub step_map : (a b : ℕ) (t : List ℕ) (l : Lazy FileValue) (r : Result Outcome Stop) → e ≡ lazy.Map t l → Evaluates answer_of (after (at_depth m n l) (mapped_out m n t)) a b r → Evaluates answer_of (step_out m n e) a b r
+    unfolding after mapped_out
+    step_map a b t l r is h = at_layer a b r (Lazy-F.Map t l) (ap (out-Lazy FileValue) is ∙ lazy.outs-Map t l) h
+
+    pub step_catch : (a b : ℕ) (t : Lazy FileValue) (class : Class) (recover : List ℕ) (r : Result Outcome Stop) → e ≡ lazy.Catch t class recover → Evaluates answer_of (otherwise (at_depth m n t) (recovered_out m n class recover)) a b r → Evaluates answer_of (step_out m n e) a b r
+    unfolding otherwise recovered_out
+    step_catch a b t class recover r is h = at_layer a b r (Lazy-F.Catch t class recover) (ap (out-Lazy FileValue) is ∙ lazy.outs-Catch t class recover) h
+
+    pub step_input : (a b : ℕ) (path : List ℕ) → e ≡ lazy.Input path → Evaluates answer_of (step_out m n e) a b (Err TooLarge)
+    step_input a b path is = at_layer a b (Err TooLarge) (Lazy-F.Input path) (ap (out-Lazy FileValue) is ∙ lazy.outs-Input path) (deep_past answer_of (plain Deep) a b refl)
 
 pub ruleset zero_rules = (zero_val, zero_other, no_memory)
 
 pub ruleset expression_rules = (expression_zero, expression_step)
 
-pub ruleset step_rules = (step_val, step_call, step_list, step_dict, step_other, no_memory)
+pub ruleset step_rules = (step_val, step_call, step_list, step_dict, step_op, step_cond, step_map, step_catch, step_input, no_memory)
 
 -- ---- what comes of evaluated parts
 
@@ -257,7 +238,58 @@ pub after_dict : (o : Out FileValue (List (Datum FileValue × Datum FileValue)))
 after_dict o a b vs x l h e =
     after_all o (fresh.keyed own) a b b vs (Ok x) h (silent_ok answer_of (fresh.keyed own vs) b x l (made_silent (kept own (value.Dict vs))) (sym e))
 
-pub ruleset after_rules = (after_all, after_failed, after_err, after_list, after_dict, no_memory)
+pub after_op : (o : Out FileValue (List (Datum FileValue))) (kind : OpKind) (a b : ℕ) (vs : List (Datum FileValue)) (x : Outcome) → b ≤ most_met → Evaluates answers_of o a b (Ok (gathered.All vs)) → answer_of x ≡ (fresh.operated own kind vs).answer
+    → Evaluates answer_of (after o (fresh.operated own kind)) a b (Ok x)
+after_op o kind a b vs x l h e =
+    after_all o (fresh.operated own kind) a b b vs (Ok x) h (silent_ok answer_of (fresh.operated own kind vs) b x l (made_silent (applied own kind vs)) (sym e))
+
+pub ruleset after_rules = (after_all, after_failed, after_err, after_list, after_dict, after_op, no_memory)
+
+-- ---- what comes of one evaluated part
+
+module _ (o : Out FileValue (Datum FileValue)) (go : Datum FileValue → Out FileValue (Datum FileValue)) where
+  pub value_gives : (a b c : ℕ) (v : Datum FileValue) (r : Result Outcome Stop) → Evaluates answer_of o a b (Ok (outcome.Value v)) → Evaluates answer_of (go v) b c r → Evaluates answer_of (after o go) a c r
+  unfolding Evaluates after
+  value_gives a b c v r h g =
+      subst (λ q. Evaluates answer_of (before o.events (on_answer q go failing)) a c r) (sym h.gives) (evaluates_before answer_of o.events (go v) a b c r h.counted g)
+
+  pub value_fails : (a b : ℕ) (f : Failure) → Evaluates answer_of o a b (Ok (outcome.Failed f)) → Evaluates answer_of (after o go) a b (Ok (outcome.Failed f))
+  unfolding Evaluates after
+  value_fails a b f h =
+      subst (λ q. Evaluates answer_of (before o.events (on_answer q go failing)) a b (Ok (outcome.Failed f))) (sym h.gives)
+      (evaluates_before answer_of o.events (failing f) a b b (Ok (outcome.Failed f)) h.counted (plain_ok answer_of (Failed f) b (outcome.Failed f) h.fits refl))
+
+  pub value_stops : (a b : ℕ) (s : Stop) → Evaluates answer_of o a b (Err s) → Evaluates answer_of (after o go) a b (Err s)
+  unfolding Evaluates IsPast after
+  value_stops a b TooLarge (inl d) = inl (ap (λ q. (on_answer q go failing).answer) d)
+  value_stops a b TooLarge (inr l) = inr (omega (arith, count-append o.events (on_answer o.answer go failing).events))
+  value_stops a b OutOfMemory h = tt
+
+pub branch_taken : (m : Module) (n : ℕ) (x y t : Lazy FileValue) (v : Datum FileValue) (a b : ℕ) (r : Result Outcome Stop) → t ≡ (if truth v then x else y) → Evaluates answer_of (at_depth m n t) a b r → Evaluates answer_of (branch_out m n x y v) a b r
+unfolding branch_out
+branch_taken m n x y t v a b r is h = subst (λ e. Evaluates answer_of (at_depth m n e) a b r) is h
+
+pub ruleset value_rules = (value_gives, value_fails, value_stops, branch_taken, no_memory)
+
+module _ (o : Out FileValue (Datum FileValue)) (fail : Failure → Out FileValue (Datum FileValue)) where
+  pub caught_value : (a b : ℕ) (v : Datum FileValue) → Evaluates answer_of o a b (Ok (outcome.Value v)) → Evaluates answer_of (otherwise o fail) a b (Ok (outcome.Value v))
+  unfolding Evaluates otherwise
+  caught_value a b v h =
+      subst (λ q. Evaluates answer_of (before o.events (on_answer q fresh.given fail)) a b (Ok (outcome.Value v))) (sym h.gives)
+      (evaluates_before answer_of o.events (fresh.given v) a b b (Ok (outcome.Value v)) h.counted (plain_ok answer_of (Gives v) b (outcome.Value v) h.fits refl))
+
+  pub caught_failure : (a b c : ℕ) (f : Failure) (r : Result Outcome Stop) → Evaluates answer_of o a b (Ok (outcome.Failed f)) → Evaluates answer_of (fail f) b c r → Evaluates answer_of (otherwise o fail) a c r
+  unfolding Evaluates otherwise
+  caught_failure a b c f r h g =
+      subst (λ q. Evaluates answer_of (before o.events (on_answer q fresh.given fail)) a c r) (sym h.gives) (evaluates_before answer_of o.events (fail f) a b c r h.counted g)
+
+  pub caught_stop : (a b : ℕ) (s : Stop) → Evaluates answer_of o a b (Err s) → Evaluates answer_of (otherwise o fail) a b (Err s)
+  unfolding Evaluates IsPast otherwise
+  caught_stop a b TooLarge (inl d) = inl (ap (λ q. (on_answer q fresh.given fail).answer) d)
+  caught_stop a b TooLarge (inr l) = inr (omega (arith, count-append o.events (on_answer o.answer fresh.given fail).events))
+  caught_stop a b OutOfMemory h = tt
+
+pub ruleset catch_rules = (caught_value, caught_failure, caught_stop, no_memory)
 
 -- ---- arguments
 
@@ -290,6 +322,37 @@ bound_err t (Ok y) r g (inl i) e = absurd cc
 bound_err t (Ok y) r g (inr j) e = absurd cc
 bound_err t (Err y) r g (inl i) e = (y, refl, cc)
 bound_err t (Err y) r g (inr j) e = absurd cc
+
+-- ---- what an expansion comes to
+
+module _ (m : Module) (n : ℕ) where
+  pub map_calls : (a b : ℕ) (t s : List ℕ) (v : Datum FileValue) (q : Result (Lazy FileValue) StepError) (e : Lazy FileValue) (r : Result Outcome Stop) → s ≡ t → ComesTo q (step_in [] (expand_map own s v)) → q ≡ Ok e
+      → Evaluates answer_of (met_out m n e) a b r → Evaluates answer_of (mapped_out m n t v) a b r
+  unfolding mapped_out met_out
+  map_calls a b t s v q e r same comes is h =
+      subst (λ x. Evaluates answer_of (on_body (at_depth m n) [] x) a b r) (sym (ap (λ u. expand_map own u v) (sym same) ∙ bound_ok [] (expand_map own s v) q e comes is)) h
+
+  pub map_fails : (a : ℕ) (t s : List ℕ) (v : Datum FileValue) (q : Result (Lazy FileValue) StepError) (g : Failure) → a ≤ most_met → s ≡ t → ComesTo q (step_in [] (expand_map own s v)) → q ≡ Err (step_error.Failed g)
+      → Evaluates answer_of (mapped_out m n t v) a a (Ok (outcome.Failed g))
+  unfolding mapped_out
+  map_fails a t s v q g l same comes is =
+      let e = bound_err [] (expand_map own s v) q g comes is in
+      subst (λ x. Evaluates answer_of (on_body (at_depth m n) [] x) a a (Ok (outcome.Failed g))) (sym (ap (λ u. expand_map own u v) (sym same) ∙ e.1))
+      (plain_ok answer_of (Failed (failure_in [] e.0)) a (outcome.Failed g) l (ap Failed (sym e.2)))
+
+  pub catch_calls : (a b : ℕ) (class : Class) (t s : List ℕ) (f : Failure) (o : Option (Lazy FileValue)) (e : Lazy FileValue) (r : Result Outcome Stop) → s ≡ t → o ≡ expand_catch class s (error_of f) → o ≡ Some e
+      → Evaluates answer_of (met_out m n e) a b r → Evaluates answer_of (recovered_out m n class t f) a b r
+  unfolding recovered_out met_out
+  catch_calls a b class t s f o e r same comes is h =
+      subst (λ x. Evaluates answer_of (fresh.recovering (at_depth m n) f x) a b r) (sym (ap (λ u. expand_catch class u (error_of f)) (sym same) ∙ sym comes ∙ is)) h
+
+  pub catch_none : (a : ℕ) (class : Class) (t s : List ℕ) (f : Failure) (o : Option (Lazy FileValue)) → a ≤ most_met → s ≡ t → o ≡ expand_catch class s (error_of f) → o ≡ None → Evaluates answer_of (recovered_out m n class t f) a a (Ok (outcome.Failed f))
+  unfolding recovered_out
+  catch_none a class t s f o l same comes is =
+      subst (λ x. Evaluates answer_of (fresh.recovering (at_depth m n) f x) a a (Ok (outcome.Failed f))) (sym (ap (λ u. expand_catch class u (error_of f)) (sym same) ∙ sym comes ∙ is))
+      (plain_ok answer_of (Failed f) a (outcome.Failed f) l refl)
+
+pub ruleset expansion_rules = (map_calls, map_fails, catch_calls, catch_none, no_memory)
 
 -- the parameters of a task's code
 code_parameters : (m : Module) (f : Function) (code : TaskCode) → IsCodeOf m f code → parameters_of code.signature ≡ signature_of f

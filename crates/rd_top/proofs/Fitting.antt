@@ -8,10 +8,10 @@ use Rattle.rd_top.specs.declared.evaluate.Stop.{Stop}
 use Rattle.rd_top.specs.declared.evaluate.Stop.TheVariants.{TooLarge, OutOfMemory}
 use Rattle.rd_tree.specs.declared.tree.Module.{Module}
 use Rattle.rd_top.specs.Running.{own}
-use Rattle.rd_top.specs.Fresh.{Deep, fresh, trace}
-use Rattle.rd_top.specs.Fits.{most_nested, Fits, FreshGives}
+use Rattle.rd_registry.specs.Fresh.{Deep, fresh, trace}
+use Rattle.rd_registry.specs.Fits.{most_nested, Fits, FreshGives}
 use Rattle.rd_top.specs.Evaluating.{answer_of, IsPast, Evaluates, at_depth, met_out}
-use Rattle.rd_top.proofs.Deeper.{deeper}
+use Rattle.rd_registry.proofs.Deeper.{deeper}
 
 pub not_deep : (y : Outcome) → answer_of y ≢ Deep
 not_deep (outcome.Value v) e = cc

@@ -7,7 +7,7 @@ use Rattle.rd_value.specs.declared.expr.Lazy.TheViews as made
 use Rattle.rd_value.specs.declared.expr.Lazy.TheVariants as variant
 use Rattle.rd_value.specs.declared.expr.Lazy.TheOpen.{Lazy-F}
 use Rattle.rd_value.specs.declared.expr.Lazy.TheFolds.{fold-roll-Lazy}
-use Rattle.rd_top.specs.Fits.{lazies, lazies_at, counts}
+use Rattle.rd_registry.specs.Fits.{lazies, lazies_at, counts}
 
 module _ {F : Type 0} where
   pub lazies_call : (t : List ℕ) (es : List (Lazy F)) (ks : List (List ℕ × Lazy F)) → lazies (variant.Call t es ks) ≡ (sum (map lazies es) + sum (counts (map (λ p. (p.0, lazies p.1)) ks))) + 1

@@ -1,14 +1,12 @@
 pub mod Answering
 pub mod Asked
 pub mod Bound
-pub mod Deeper
 pub mod Erased
 pub mod ErasedCounts
 pub mod ErasedLayers
 pub mod Evaluated
 pub mod Fitting
 pub mod Given
-pub mod Kept
 pub mod LazyCounts
 pub mod Parts
 pub mod Paths

@@ -10,9 +10,9 @@ use Rattle.rd_top.specs.declared.evaluate.Gathered.{Gathered}
 use Rattle.rd_top.specs.declared.evaluate.Gathered.TheVariants as gathered
 use Rattle.rd_top.specs.declared.evaluate.Stop.{Stop}
 use Rattle.rd_top.specs.declared.evaluate.Stop.TheVariants.{TooLarge, OutOfMemory}
-use Rattle.rd_top.specs.Fresh as fresh
-use Rattle.rd_top.specs.Fresh.{Answer, Gives, Failed, Deep, Out, join, both}
-use Rattle.rd_top.specs.Fits.{most_met, count_met}
+use Rattle.rd_registry.specs.Fresh as fresh
+use Rattle.rd_registry.specs.Fresh.{Answer, Gives, Failed, Deep, Out, join, both}
+use Rattle.rd_registry.specs.Fits.{most_met, count_met}
 use Rattle.rd_top.specs.Evaluating.{answer_of, answers_of, IsPast, Evaluates, ahead, in_front}
 use Rattle.rd_top.proofs.Evaluated.{count-append}
 

@@ -1,7 +1,7 @@
 -- The root expression, in the program and over model files.
-use Rattle.std.proofs.Common.{◌≡◌, ◌≢◌, ℕ, List, [], ◌∷◌, map, refl, sym, ap, ◌∙◌}
-use Rattle.rd_value.specs.Model.{ModelValue, ModelFile, file_of}
-use Rattle.rd_value.specs.Erase.{with_files, with_files_expr, with_file_expr, erase, erase_expr}
+use Rattle.std.proofs.Common.{◌≡◌, ℕ, List, [], ◌∷◌, map, refl, sym, ap, ◌∙◌}
+use Rattle.rd_value.specs.Model.{file_of}
+use Rattle.rd_value.specs.Erase.{with_files, with_files_expr, with_file_expr, erase_expr}
 use Rattle.rd_value.specs.Limits.{is_within_expr}
 use Rattle.rd_value.specs.declared.value.FileValue.{FileValue}
 use Rattle.rd_value.specs.declared.value.Datum.{Datum}

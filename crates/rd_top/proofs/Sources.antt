@@ -1,5 +1,5 @@
 -- Whole sources.
-use Rattle.std.proofs.Common.{◌≡◌, ℕ, List, Option, None, Some, Result, Ok, Err, IfOk, IfSome, inl, inr, refl, sym, subst}
+use Rattle.std.proofs.Common.{◌≡◌, ℕ, List, Option, None, Some, Err, IfSome, inl, inr, refl, subst}
 use Rattle.rd_syntax.specs.declared.token.Token.{Token}
 use Rattle.rd_syntax.specs.declared.source.SourceError.{SourceError}
 use Rattle.rd_syntax.specs.declared.source.SourceError.TheVariants as err

@@ -18,9 +18,9 @@ use Rattle.rd_top.specs.declared.serial.Ending.TheVariants as ending
 use Rattle.rd_top.specs.Command.{Argument, IsRun}
 use Rattle.rd_top.specs.Files.{Files}
 use Rattle.rd_top.specs.Source.{IsWorkflow, IsRefused}
-use Rattle.rd_top.specs.Tasks.{find_word}
-use Rattle.rd_top.specs.Fresh.{Answer, answer_map}
-use Rattle.rd_top.specs.Fits.{Fits, FreshGives}
+use Rattle.rd_registry.specs.Words.{find_word}
+use Rattle.rd_registry.specs.Fresh.{Answer, answer_map}
+use Rattle.rd_registry.specs.Fits.{Fits, FreshGives}
 use Rattle.rd_top.specs.Evaluating.{answer_of}
 use Rattle.rd_top.specs.Printed.{root, line_of, status_of}
 use Rattle.rd_top.specs.Shown.{line}

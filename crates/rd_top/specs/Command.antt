@@ -1,5 +1,5 @@
 -- The words of a command line.
-use Rattle.std.specs.Prelude.{◌≡◌, ◌≢◌, ℕ, ◌<◌, ◌⊎◌, ◌==◌, Bool, true, List, [], ◌∷◌, ◌++◌, length, map, codes}
+use Rattle.std.specs.Prelude.{◌≡◌, ◌≢◌, ℕ, ◌<◌, ◌⊎◌, ◌==◌, Bool, true, List, [], ◌∷◌, length, map, codes}
 use Rattle.std.specs.List.{AllPairs, AllZip, position_or_len, before_first, after_first}
 use Rattle.rd_base.specs.Path.{is_path}
 use Rattle.rd_value.specs.declared.value.FileValue.{FileValue}

@@ -1,10 +1,13 @@
 -- What an evaluator returns that counts the expressions it meets.
-use Rattle.std.specs.Prelude.{◌≡◌, ℕ, ◌+◌, ◌<◌, ◌≤◌, ◌⊎◌, List, ◌∷◌, ◌++◌, Result, Ok, Err}
+use Rattle.std.specs.Prelude.{◌≡◌, ℕ, ◌+◌, ◌<◌, ◌≤◌, ◌⊎◌, List, ◌∷◌, ◌++◌, if◌then◌else◌, Result, Ok, Err}
+use Rattle.rd_value.specs.declared.class.Class.{Class}
 use Rattle.rd_value.specs.declared.value.FileValue.{FileValue}
 use Rattle.rd_value.specs.declared.value.Datum.{Datum}
 use Rattle.rd_value.specs.declared.expr.Lazy.{Lazy, out-Lazy}
+use Rattle.rd_value.specs.declared.failure.Failure.{Failure}
 use Rattle.rd_value.specs.declared.failure.Outcome.{Outcome}
 use Rattle.rd_value.specs.declared.failure.Outcome.TheVariants as outcome
+use Rattle.rd_value.specs.Truth.{truth}
 use Rattle.rd_tree.specs.declared.tree.Function.{Function}
 use Rattle.rd_tree.specs.declared.tree.Module.{Module}
 use Rattle.rd_top.specs.declared.evaluate.Gathered.{Gathered}
@@ -12,9 +15,9 @@ use Rattle.rd_top.specs.declared.evaluate.Gathered.TheVariants as gathered
 use Rattle.rd_top.specs.declared.evaluate.Stop.{Stop}
 use Rattle.rd_top.specs.declared.evaluate.Stop.TheVariants.{TooLarge, OutOfMemory}
 use Rattle.rd_top.specs.Running.{own}
-use Rattle.rd_top.specs.Fresh as fresh
-use Rattle.rd_top.specs.Fresh.{Answer, Gives, Failed, Deep, Out, Arguments, join, then_, failing, calling, entered, go_on, step, run}
-use Rattle.rd_top.specs.Fits.{most_met, count_met}
+use Rattle.rd_registry.specs.Fresh as fresh
+use Rattle.rd_registry.specs.Fresh.{Answer, Gives, Failed, Deep, Out, Arguments, join, then_, failing, given, recovered, calling, entered, go_on, step, run}
+use Rattle.rd_registry.specs.Fits.{most_met, count_met}
 
 abbrev pub answer_of : Outcome → Answer (Datum FileValue)
 answer_of (outcome.Value v) = Gives v
@@ -51,6 +54,10 @@ in_front put a more = join (λ v ws. put v ∷ ws) a more
 unfoldable pub after : {A : Type 0} → Out FileValue A → (A → Out FileValue (Datum FileValue)) → Out FileValue (Datum FileValue)
 after o go = then_ o go failing
 
+-- what comes of a failure, where a value stays as it is
+unfoldable pub otherwise : Out FileValue (Datum FileValue) → (Failure → Out FileValue (Datum FileValue)) → Out FileValue (Datum FileValue)
+otherwise o fail = then_ o given fail
+
 module _ (m : Module) (depth : ℕ) where
   -- what an expression gives at the depth, and at the next one
   unfoldable pub at_depth : Lazy FileValue → Out FileValue (Datum FileValue)
@@ -68,6 +75,16 @@ module _ (m : Module) (depth : ℕ) where
 
   unfoldable pub seconds_out : {K : Type 0} → List (K × Lazy FileValue) → Out FileValue (List (K × Datum FileValue))
   seconds_out ps = fresh.seconds at_depth ps
+
+  -- what is evaluated of a branch, of the calls of a task with each item, and of a recovery
+  unfoldable pub branch_out : Lazy FileValue → Lazy FileValue → Datum FileValue → Out FileValue (Datum FileValue)
+  branch_out when_true when_false v = at_depth (if truth v then when_true else when_false)
+
+  unfoldable pub mapped_out : List ℕ → Datum FileValue → Out FileValue (Datum FileValue)
+  mapped_out task v = fresh.mapped own at_depth task v
+
+  unfoldable pub recovered_out : Class → List ℕ → Failure → Out FileValue (Datum FileValue)
+  recovered_out class recover f = recovered at_depth class recover f
 
   -- a call of values, a bound call, and an expression that is met
   unfoldable pub values_out : List ℕ → Arguments FileValue → Out FileValue (Datum FileValue)

@@ -4,10 +4,7 @@ pub mod Command
 pub mod Disk
 pub mod Evaluating
 pub mod Files
-pub mod Fits
-pub mod Fresh
 pub mod Printed
 pub mod Running
 pub mod Shown
 pub mod Source
-pub mod Tasks

@@ -20,10 +20,10 @@ use Rattle.rd_top.specs.Arguments.{plain}
 use Rattle.rd_top.specs.Command.{Argument, IsRun}
 use Rattle.rd_top.specs.Files.{Files}
 use Rattle.rd_top.specs.Source.{IsWorkflow}
-use Rattle.rd_top.specs.Tasks.{find_word}
-use Rattle.rd_top.specs.Fresh as fresh
-use Rattle.rd_top.specs.Fresh.{Answer}
-use Rattle.rd_top.specs.Fits.{FreshGives}
+use Rattle.rd_registry.specs.Words.{find_word}
+use Rattle.rd_registry.specs.Fresh as fresh
+use Rattle.rd_registry.specs.Fresh.{Answer}
+use Rattle.rd_registry.specs.Fits.{FreshGives}
 use Rattle.rd_top.specs.Shown.{line, value_line, failure_line}
 use Rattle.rd_top.specs.Running.{own}
 

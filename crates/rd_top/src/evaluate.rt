@@ -1,19 +1,19 @@
 //! Fresh evaluation by plain recursion, within its limits.
 
-ghost use Rattle.std.specs.Prelude.{◌≡◌, ◌≢◌, ◌≤◌, ℕ, List, [], IfOk, OnOk, Err, length};
+ghost use Rattle.std.specs.Prelude.{◌≡◌, ◌≤◌, ℕ, if◌then◌else◌, List, [], IfOk, MatchOption, None, OnOk, Some, Err, length};
 ghost use Rattle.std.specs.Arc.{arc_value};
 ghost use Rattle.rd_value.specs.declared.class.Class.TheVariants as class;
 ghost use Rattle.rd_value.specs.declared.value.FileValue.{FileValue};
 ghost use Rattle.rd_value.specs.declared.value.Datum.{Datum};
-ghost use Rattle.rd_value.specs.Model.{ModelExpr, file_of};
 ghost use Rattle.rd_value.specs.Operators.{kept};
 ghost use Rattle.rd_value.specs.Raise as raise;
 ghost use Rattle.rd_meaning.specs.Step.{failure_in};
 ghost use Rattle.rd_tree.specs.declared.tree.Function.{Function};
 ghost use Rattle.rd_tree.specs.declared.tree.Module.{Module};
-ghost use Rattle.rd_top.specs.Fits as fits;
-ghost use Rattle.rd_top.specs.Fresh as fresh;
-ghost use Rattle.rd_top.specs.Evaluating.{Evaluates, answer_of, answers_of, ahead, in_front, after, at_depth, step_out, arguments_out, parts_out, seconds_out, values_out, body_out, met_out};
+ghost use Rattle.rd_registry.specs.Fits as fits;
+ghost use Rattle.rd_registry.specs.Fresh as fresh;
+ghost use Rattle.rd_top.specs.Evaluating.{Evaluates, answer_of, answers_of, ahead, in_front, after, at_depth, step_out, arguments_out, parts_out, seconds_out, values_out, body_out, met_out, otherwise, branch_out, mapped_out, recovered_out};
+ghost use Rattle.rd_registry.specs.Bodies.{find_task};
 ghost use Rattle.rd_registry.specs.Registry.{IsCodeOf, Registers};
 ghost use Rattle.rd_top.specs.Running.{own};
 
@@ -21,11 +21,11 @@ use crate::lazies::lazies;
 use rd_base::{Copies, Items, OutOfMemory, Text};
 use rd_body::{BodyJob, Finished, Reduction, run_body};
 use rd_code::TaskCode;
-use rd_meaning::{NamedValues, StepError, bind};
+use rd_meaning::{NamedValues, StepError, apply_op, bind, expand_catch, expand_map};
 use rd_registry::Registry;
 use rd_tree::Module;
 use rd_value::class::Class;
-use rd_value::expr::Expr;
+use rd_value::expr::{Expr, OpKind};
 use rd_value::failure::{Failure, Outcome};
 use rd_value::limits::kept;
 use rd_value::raise::raised;
@@ -90,6 +90,17 @@ fn made(alloc: Global, value: Value) -> Result<Outcome, OutOfMemory>
     match kept(alloc, value)? {
         Ok(value) => Ok(Outcome::Value(value)),
         Err(error) => Ok(Outcome::Failed(in_no_task(alloc, error)?)),
+    }
+}
+
+/// An operator on evaluated parts.
+fn operated(alloc: Global, op: OpKind, parts: &Values) -> Result<Outcome, OutOfMemory>
+    ensures { IfOk result (λ outcome. answer_of outcome ≡ (fresh.operated own op parts.now).answer) }
+{
+    match apply_op(alloc, op, parts) {
+        Ok(value) => Ok(Outcome::Value(value)),
+        Err(StepError::Failed(failure)) => Ok(Outcome::Failed(failure)),
+        Err(StepError::OutOfMemory) => Err(OutOfMemory),
     }
 }
 
@@ -163,6 +174,13 @@ fn ran(alloc: Global, code: &Arc<TaskCode, Global>, args: Values) -> Result<Fini
     run_body(alloc, job)
 }
 
+/// The code of the task of a full name.
+fn code_named<'r>(registry: &'r Registry, full_name: &Text) -> Option<&'r Arc<TaskCode, Global>>
+    ensures { (m : Module) → Registers m registry.now → MatchOption result (find_task m full_name.now ≡ None) (λ code. (f : Function) × (find_task m full_name.now ≡ Some f) × IsCodeOf m f (arc_value code.now)) }
+{
+    Some(registry.code(registry.find(full_name)?))
+}
+
 /// Evaluates over the tasks of a module.
 #[derive(Clone, Copy)]
 pub struct Evaluation<'m> {
@@ -214,9 +232,21 @@ impl<'m> Evaluation<'m> {
                 positional,
                 keywords,
             } => self.call(depth, task, positional.as_slice(), keywords.as_slice(), met),
+            Expr::Op { op, parts } => self.operation(depth, *op, parts.as_slice(), met),
             Expr::ListOf(parts) => self.list(depth, parts.as_slice(), met),
             Expr::DictOf(pairs) => self.dict(depth, pairs.as_slice(), met),
-            _ => Err(Stop::TooLarge),
+            Expr::Cond {
+                test,
+                when_true,
+                when_false,
+            } => self.branch(depth, test.get(), when_true.get(), when_false.get(), met),
+            Expr::Map { task, list } => self.map(depth, task, list.get(), met),
+            Expr::Catch {
+                tried,
+                class,
+                recover,
+            } => self.catch(depth, tried.get(), *class, recover, met),
+            Expr::Input(_) => Err(Stop::TooLarge),
         }
     }
 
@@ -275,6 +305,131 @@ impl<'m> Evaluation<'m> {
         }
     }
 
+    /// An operator on parts that are evaluated at the depth.
+    #[cycle(evaluate)]
+    #[tactic(auto, using(crate::proofs::Evaluated::after_rules))]
+    fn operation(
+        &self,
+        depth: u32,
+        op: OpKind,
+        parts: &[Expr],
+        met: &mut u32,
+    ) -> Result<Outcome, Stop>
+        requires registered { Registers self.now.tasks.now self.now.registry.now }
+        requires few { met.old ≤ fits.most_met }
+        ensures gives { Evaluates answer_of (after (parts_out self.now.tasks.now depth parts.now) (fresh.operated own op)) met.old met.new result }
+        ensures room { met.new ≤ fits.most_met }
+    {
+        match self.parts(depth, parts, met) {
+            Ok(Gathered::All(values)) => Ok(operated(self.alloc, op, &values)?),
+            Ok(Gathered::Failed(failure)) => Ok(Outcome::Failed(failure)),
+            Err(stop) => Err(stop),
+        }
+    }
+
+    /// The branch that the truth of the test takes.
+    #[cycle(evaluate)]
+    #[tactic(auto, using(crate::proofs::Evaluated::value_rules))]
+    fn branch(
+        &self,
+        depth: u32,
+        test: &Expr,
+        when_true: &Expr,
+        when_false: &Expr,
+        met: &mut u32,
+    ) -> Result<Outcome, Stop>
+        requires registered { Registers self.now.tasks.now self.now.registry.now }
+        requires few { met.old ≤ fits.most_met }
+        ensures gives { Evaluates answer_of (after (at_depth self.now.tasks.now depth test.now) (branch_out self.now.tasks.now depth when_true.now when_false.now)) met.old met.new result }
+        ensures room { met.new ≤ fits.most_met }
+    {
+        match self.expression(depth, test, met) {
+            Ok(Outcome::Value(value)) => {
+                let taken = if value.truth() { when_true } else { when_false };
+                self.expression(depth, taken, met)
+            }
+            Ok(Outcome::Failed(failure)) => Ok(Outcome::Failed(failure)),
+            Err(stop) => Err(stop),
+        }
+    }
+
+    /// The calls of a task with each item of a list.
+    #[cycle(evaluate)]
+    #[tactic(auto, using(crate::proofs::Evaluated::value_rules))]
+    fn map(&self, depth: u32, task: &Text, list: &Expr, met: &mut u32) -> Result<Outcome, Stop>
+        requires registered { Registers self.now.tasks.now self.now.registry.now }
+        requires few { met.old ≤ fits.most_met }
+        ensures gives { Evaluates answer_of (after (at_depth self.now.tasks.now depth list.now) (mapped_out self.now.tasks.now depth task.now)) met.old met.new result }
+        ensures room { met.new ≤ fits.most_met }
+    {
+        match self.expression(depth, list, met) {
+            Ok(Outcome::Value(value)) => self.mapped(depth, task, &value, met),
+            Ok(Outcome::Failed(failure)) => Ok(Outcome::Failed(failure)),
+            Err(stop) => Err(stop),
+        }
+    }
+
+    /// The calls of a task with each item of a value.
+    #[cycle(evaluate)]
+    #[tactic(auto, using(crate::proofs::Evaluated::expansion_rules))]
+    fn mapped(&self, depth: u32, task: &Text, value: &Value, met: &mut u32) -> Result<Outcome, Stop>
+        requires registered { Registers self.now.tasks.now self.now.registry.now }
+        requires few { met.old ≤ fits.most_met }
+        ensures gives { Evaluates answer_of (mapped_out self.now.tasks.now depth task.now value.now) met.old met.new result }
+        ensures room { met.new ≤ fits.most_met }
+    {
+        match expand_map(self.alloc, task.as_str(), value) {
+            Ok(calls) => self.go_on(depth, &calls, met),
+            Err(StepError::Failed(failure)) => Ok(Outcome::Failed(failure)),
+            Err(StepError::OutOfMemory) => Err(Stop::OutOfMemory),
+        }
+    }
+
+    /// The outcome of what is tried, or of what recovers from its failure.
+    #[cycle(evaluate)]
+    #[tactic(auto, using(crate::proofs::Evaluated::catch_rules))]
+    fn catch(
+        &self,
+        depth: u32,
+        tried: &Expr,
+        class: Class,
+        recover: &Text,
+        met: &mut u32,
+    ) -> Result<Outcome, Stop>
+        requires registered { Registers self.now.tasks.now self.now.registry.now }
+        requires few { met.old ≤ fits.most_met }
+        ensures gives { Evaluates answer_of (otherwise (at_depth self.now.tasks.now depth tried.now) (recovered_out self.now.tasks.now depth class recover.now)) met.old met.new result }
+        ensures room { met.new ≤ fits.most_met }
+    {
+        match self.expression(depth, tried, met) {
+            Ok(Outcome::Value(value)) => Ok(Outcome::Value(value)),
+            Ok(Outcome::Failed(failure)) => self.recovered(depth, class, recover, failure, met),
+            Err(stop) => Err(stop),
+        }
+    }
+
+    /// What comes of a failure that a class may catch.
+    #[cycle(evaluate)]
+    #[tactic(auto, using(crate::proofs::Evaluated::expansion_rules))]
+    fn recovered(
+        &self,
+        depth: u32,
+        class: Class,
+        recover: &Text,
+        failure: Failure,
+        met: &mut u32,
+    ) -> Result<Outcome, Stop>
+        requires registered { Registers self.now.tasks.now self.now.registry.now }
+        requires few { met.old ≤ fits.most_met }
+        ensures gives { Evaluates answer_of (recovered_out self.now.tasks.now depth class recover.now failure) met.old met.new result }
+        ensures room { met.new ≤ fits.most_met }
+    {
+        match expand_catch(self.alloc, class, recover.as_str(), &failure)? {
+            Some(call) => self.go_on(depth, &call, met),
+            None => Ok(Outcome::Failed(failure)),
+        }
+    }
+
     /// A call of values.
     #[cycle(evaluate)]
     #[tactic(auto, using(crate::proofs::Evaluated::enter_rules))]
@@ -290,7 +445,7 @@ impl<'m> Evaluation<'m> {
         ensures gives { Evaluates answer_of (values_out self.now.tasks.now depth task.now arguments.now) met.old met.new result }
         ensures room { met.new ≤ fits.most_met }
     {
-        match self.registry.code(task) {
+        match code_named(self.registry, task) {
             None => Ok(Outcome::Failed(no_task(self.alloc, task)?)),
             Some(code) => {
                 match bind(
@@ -460,9 +615,3 @@ pub fn evaluate(
         Err(stop) => Err(stop),
     }
 }
-
-/// Deeper evaluation is the same: an answer that isn't Deep stays at every depth from its own on, with all that happens.
-pub fn deeper_is_the_same()
-    ensures answer { («module» : Module) (e : ModelExpr) (n k : ℕ) → n ≤ k → fresh.fresh file_of «module» n e ≢ fresh.Deep → fresh.fresh file_of «module» k e ≡ fresh.fresh file_of «module» n e }
-    ensures events { («module» : Module) (e : ModelExpr) (n k : ℕ) → n ≤ k → fresh.fresh file_of «module» n e ≢ fresh.Deep → fresh.trace file_of «module» k e ≡ fresh.trace file_of «module» n e }
-{}

@@ -1,7 +1,7 @@
 //! Counts lazy expressions.
 
 ghost use Rattle.std.specs.Prelude.{◌≡◌, min, sum, map};
-ghost use Rattle.rd_top.specs.Fits as fits;
+ghost use Rattle.rd_registry.specs.Fits as fits;
 
 use rd_base::Text;
 use rd_value::expr::Expr;

@@ -9,9 +9,7 @@ mod print;
 mod serial;
 mod shown;
 mod source;
-mod tasks;
 
 pub use disk::{Disk, DiskError, Folder, Found, LONGEST_FILE, MemoryDisk};
-pub use evaluate::deeper_is_the_same;
 pub use serial::redun_serial;
 pub use source::one_module;

@@ -6,7 +6,9 @@ ghost use Rattle.rd_base.specs.Causes.{Rose};
 ghost use Rattle.rd_value.specs.Repr.{repr};
 ghost use Rattle.rd_value.specs.declared.value.Datum.TheVariants.{Int};
 ghost use Rattle.rd_value.specs.declared.expr.Lazy.TheVariants.{Val};
+ghost use Rattle.rd_tree.specs.declared.tree.Module.{Module};
 ghost use Rattle.rd_registry.specs.Registry.{Registers};
+ghost use Rattle.rd_registry.specs.Words.{find_word};
 ghost use Rattle.rd_top.specs.Running.{own};
 ghost use Rattle.rd_top.specs.declared.serial.Ending.TheVariants.{SourceRefused};
 ghost use Rattle.rd_top.specs.Arguments.{HoldNoFiles};
@@ -20,7 +22,6 @@ use crate::evaluate::{Stop, evaluate};
 use crate::print::print;
 use crate::shown::{push_failure, push_value};
 use crate::source::read_source;
-use crate::tasks::find_word;
 use rd_base::{Copies, Items, OutOfMemory, Sink, SinkFailed, Status, Text};
 use rd_registry::Registry;
 use rd_syntax::SourceError;
@@ -54,6 +55,16 @@ fn root_arguments(alloc: Global, arguments: &[(Text, Value)]) -> Result<NamedExp
     Ok(named)
 }
 
+/// The full name of the task that a word names.
+fn task_named(alloc: Global, registry: &Registry, word: &Text) -> Result<Option<Text>, OutOfMemory>
+    ensures { (m : Module) → Registers m registry.now → IfOk result (λ name. name ≡ find_word m word.now) }
+{
+    match registry.find_word(word) {
+        Some(task) => Ok(Some(Text::from_str(alloc, registry.full_name(task))?)),
+        None => Ok(None),
+    }
+}
+
 /// Evaluates the task of a module that a word names, called with the arguments.
 fn run_task(
     alloc: Global,
@@ -66,7 +77,7 @@ fn run_task(
     requires no_files { HoldNoFiles arguments.now }
     ensures { IfOk result (OfModule «module».now word.now arguments.now) }
 {
-    let Some(task) = find_word(alloc, module, word)? else {
+    let Some(task) = task_named(alloc, registry, word)? else {
         return Ok(Ending::NotFound(word.copy(alloc)?));
     };
     let root = Expr::Call {

@@ -20,7 +20,7 @@ pub(crate) fn push_string(out: &mut Vec<u8>, bytes: &[u8]) -> Result<(), OutOfMe
 }
 
 /// Adds a text.
-pub(crate) fn push_text(out: &mut Vec<u8>, text: &str) -> Result<(), OutOfMemory>
+pub fn push_text(out: &mut Vec<u8>, text: &str) -> Result<(), OutOfMemory>
     ensures { OnOk result (out.new.items ≡ out.old.items ++ string text.now) }
 {
     push_string(out, text.as_bytes())

@@ -53,7 +53,7 @@ fn push_pairs(out: &mut Vec<u8>, pairs: &[(Value, Value)]) -> Result<(), OutOfMe
 
 /// Adds the canonical bytes of a value.
 #[cycle(value)]
-pub(crate) fn push_value(out: &mut Vec<u8>, value: &Value) -> Result<(), OutOfMemory>
+pub fn push_value(out: &mut Vec<u8>, value: &Value) -> Result<(), OutOfMemory>
     ensures { OnOk result (out.new.items ≡ out.old.items ++ canon (λ f. f) value.now) }
 {
     match value {

@@ -1,4 +1,4 @@
-use Rattle.std.proofs.Common.{◌≡◌, ℕ, List, [], ◌∷◌, map, drop, codes, sym, ap, subst, ◌∙◌, string_bytes, String, Global}
+use Rattle.std.proofs.Common.{◌≡◌, ℕ, List, ◌∷◌, map, drop, codes, sym, ap, subst, ◌∙◌, string_bytes, String, Global}
 use Rattle.rd_base.specs.Path.{is_path}
 use Rattle.rd_top.specs.Command.{IsOperand, AreArguments}
 use Rattle.rd_top.proofs.Asked.{three, rest_is, not_different, not_empty, lawful_where_made}

@@ -3,7 +3,7 @@ use Rattle.std.specs.Prelude.{sum}
 use denote.Param.Weighed.{most}
 use Rattle.rd_value.specs.declared.value.FileValue.{FileValue}
 use Rattle.rd_value.specs.declared.expr.Lazy.{size-Lazy}
-use Rattle.rd_top.specs.Fits.{lazies, counts}
+use Rattle.rd_registry.specs.Fits.{lazies, counts}
 use Rattle.rd_top.proofs.lazies.+lazies.Given as goal
 
 abbrev pub invariant-lazies_in-loop-part : goal.invariant-lazies_in-loop-part

@@ -1,4 +1,4 @@
-use Rattle.std.proofs.Common.{◌≡◌, ◌<◌, length, sym, ◌∙◌, subst, arith, ℕ, take, refl}
+use Rattle.std.proofs.Common.{◌≡◌, ◌<◌, length, ◌∙◌, subst, arith, ℕ, take, refl}
 use Rattle.rd_top.specs.Command.{names_of}
 use Rattle.rd_top.proofs.Given.{repeated, one_name, all_names, grown}
 use Rattle.rd_top.proofs.command.arguments.are_distinct.Goals as goal

@@ -1,6 +1,4 @@
-use Rattle.std.proofs.Common.{◌≡◌, ℕ, List, sym, ap, subst, ◌∙◌, arith}
-use Rattle.rd_value.specs.declared.value.FileValue.{FileValue}
-use Rattle.rd_value.specs.declared.value.Datum.{Datum}
+use Rattle.std.proofs.Common.{ℕ, List, sym, ap, subst, ◌∙◌, arith}
 use Rattle.rd_names.specs.Spelling.{is_name}
 use Rattle.rd_top.specs.Command.{Means}
 use Rattle.rd_top.proofs.command.arguments.argument.Goals as goal

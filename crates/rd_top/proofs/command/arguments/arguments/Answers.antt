@@ -1,4 +1,4 @@
-use Rattle.std.proofs.Common.{List, map, string_bytes}
+use Rattle.std.proofs.Common.{map, string_bytes}
 use Rattle.rd_top.proofs.Given.{not_given}
 use Rattle.rd_top.proofs.command.arguments.arguments.Goals as goal
 

@@ -1,5 +1,4 @@
-use Rattle.std.proofs.Common.{◌≡◌, ◌<◌, ◌≤◌, List, ℕ, Option, None, MatchOption, length, string_bytes, sym, subst, ◌∙◌, arith}
-use Rattle.rd_top.specs.Command.{Argument, IsArgument}
+use Rattle.std.proofs.Common.{◌<◌, ◌≤◌, length, string_bytes, arith}
 use Rattle.rd_top.proofs.Given.{one_word, no_word, all_words}
 use Rattle.rd_top.proofs.command.arguments.each.Goals as goal
 

@@ -1,4 +1,4 @@
-use Rattle.std.proofs.Common.{List, map, take, string_bytes}
+use Rattle.std.proofs.Common.{map, take, string_bytes}
 use Rattle.std.specs.List.{AllZip}
 use Rattle.rd_top.specs.Command.{IsArgument}
 use Rattle.rd_top.proofs.command.arguments.each.Given as goal

@@ -1,15 +1,16 @@
-use Rattle.std.proofs.Common.{ℕ, List, Ok, Err, ap, subst, ◌∙◌, arith}
+use Rattle.std.proofs.Common.{sym, ℕ, List, Ok, Err, ap, subst, ◌∙◌, arith}
 use Rattle.std.proofs.lemmas.Result.{err_from_is_err_and}
 use Rattle.std.specs.Arc.{arc_value}
 use Rattle.rd_value.specs.declared.value.FileValue.{FileValue}
 use Rattle.rd_value.specs.declared.value.Datum.{Datum}
 use Rattle.rd_value.specs.declared.failure.Outcome.TheVariants as outcome
+use Rattle.rd_value.specs.declared.expr.Lazy.TheVariants as lazy
 use Rattle.rd_top.specs.declared.evaluate.Gathered.{Gathered}
 use Rattle.rd_top.specs.declared.evaluate.Gathered.TheVariants as gathered
-use Rattle.rd_top.specs.Fresh as fresh
+use Rattle.rd_registry.specs.Fresh as fresh
 use Rattle.rd_top.specs.Evaluating.{answer_of, answers_of, Evaluates, at_depth, arguments_out, parts_out, seconds_out, values_out}
 use Rattle.rd_top.specs.Running.{own}
-use Rattle.rd_top.proofs.Evaluated.{no_memory, after_all, after_failed, after_list, after_dict, arguments_both, arguments_left, arguments_right, enter_none, one_each, enter_bound, enter_unbound, body_fails}
+use Rattle.rd_top.proofs.Evaluated.{no_memory, after_all, after_failed, after_list, after_dict, after_op, arguments_both, arguments_left, arguments_right, enter_none, one_each, enter_bound, enter_unbound, body_fails, step_catch}
 use Rattle.rd_top.proofs.Parts.{start, more, stopped, done}
 use Rattle.rd_top.proofs.evaluate.Evaluation.+evaluate.Goals as goal
 
@@ -49,6 +50,18 @@ list-returns-in-Ok-Failed-clause-gives t c =
     after_failed o (fresh.listed own) c.args.met.now c.parts.new.met c.in-Ok-Failed.failure
     (subst (λ (g : Gathered (List (Datum FileValue))). Evaluates answers_of o c.args.met.now c.parts.new.met (Ok g)) c.in-Ok-Failed.field-0-is c.in-Ok-Failed.ensures.gives)
 
+pub operation-returns-in_ok-operated-in-Ok-All-clause-gives : goal.operation-returns-in_ok-operated-in-Ok-All-clause-gives
+operation-returns-in_ok-operated-in-Ok-All-clause-gives t c =
+    let o = parts_out c.args.self.now.tasks.now c.args.depth c.args.parts.now in
+    after_op o c.args.op c.args.met.now c.parts.new.met c.in-Ok-All.values _ c.in-Ok-All.ensures.room
+    (subst (λ (g : Gathered (List (Datum FileValue))). Evaluates answers_of o c.args.met.now c.parts.new.met (Ok g)) c.in-Ok-All.field-0-is c.in-Ok-All.ensures.gives) c.in_ok-operated-in-Ok-All.ensures
+
+pub operation-returns-in-Ok-Failed-clause-gives : goal.operation-returns-in-Ok-Failed-clause-gives
+operation-returns-in-Ok-Failed-clause-gives t c =
+    let o = parts_out c.args.self.now.tasks.now c.args.depth c.args.parts.now in
+    after_failed o (fresh.operated own c.args.op) c.args.met.now c.parts.new.met c.in-Ok-Failed.failure
+    (subst (λ (g : Gathered (List (Datum FileValue))). Evaluates answers_of o c.args.met.now c.parts.new.met (Ok g)) c.in-Ok-Failed.field-0-is c.in-Ok-Failed.ensures.gives)
+
 pub dict-returns-in_ok-made-in-Ok-All-clause-gives : goal.dict-returns-in_ok-made-in-Ok-All-clause-gives
 dict-returns-in_ok-made-in-Ok-All-clause-gives t c =
     let o = seconds_out c.args.self.now.tasks.now c.args.depth c.args.pairs.now in
@@ -68,7 +81,7 @@ enter-body-requires t c = (
     c.requires.registered,
     (
       c.requires.few,
-      one_each c.args.self.now.tasks.now c.args.depth c.args.task.now c.args.arguments.now c.code.result c.in-Some.code (c.code.ensures c.args.self.now.tasks.now c.requires.registered) c.in-Some.is c.deref.result.now c.deref.ensures c.as_str.result.now c.as_str.ensures.value c.bind.result c.bind.ensures
+      one_each c.args.self.now.tasks.now c.args.depth c.args.task.now c.args.arguments.now c.code_named.result c.in-Some.code (c.code_named.ensures c.args.self.now.tasks.now c.requires.registered) c.in-Some.is c.deref.result.now c.deref.ensures c.as_str.result.now c.as_str.ensures.value c.bind.result c.bind.ensures
           c.in-Ok.values c.in-Ok.is,
     ),
   ),
@@ -76,17 +89,17 @@ enter-body-requires t c = (
 
 pub enter-returns-in_ok-no_task-in-None-clause-gives : goal.enter-returns-in_ok-no_task-in-None-clause-gives
 enter-returns-in_ok-no_task-in-None-clause-gives t c =
-    enter_none c.args.self.now.tasks.now c.args.depth c.args.task.now c.args.arguments.now c.args.met.now c.code.result c.in_ok-no_task-in-None.field-0 c.requires.few (c.code.ensures c.args.self.now.tasks.now c.requires.registered) c.in-None.is c.in_ok-no_task-in-None.ensures
+    enter_none c.args.self.now.tasks.now c.args.depth c.args.task.now c.args.arguments.now c.args.met.now c.code_named.result c.in_ok-no_task-in-None.field-0 c.requires.few (c.code_named.ensures c.args.self.now.tasks.now c.requires.registered) c.in-None.is c.in_ok-no_task-in-None.ensures
 
 pub enter-returns-in-Ok-clause-gives : goal.enter-returns-in-Ok-clause-gives
 enter-returns-in-Ok-clause-gives t c =
-    enter_bound c.args.self.now.tasks.now c.args.depth c.args.task.now c.args.arguments.now c.code.result c.in-Some.code (c.code.ensures c.args.self.now.tasks.now c.requires.registered) c.in-Some.is c.deref.result.now c.deref.ensures c.as_str.result.now c.as_str.ensures.value c.bind.result c.bind.ensures
+    enter_bound c.args.self.now.tasks.now c.args.depth c.args.task.now c.args.arguments.now c.code_named.result c.in-Some.code (c.code_named.ensures c.args.self.now.tasks.now c.requires.registered) c.in-Some.is c.deref.result.now c.deref.ensures c.as_str.result.now c.as_str.ensures.value c.bind.result c.bind.ensures
     c.args.met.now c.body.new.met c.in-Ok.values c.body.result c.in-Ok.is c.body.ensures.gives
 
 pub enter-returns-in-Err-Failed-clause-gives : goal.enter-returns-in-Err-Failed-clause-gives
 enter-returns-in-Err-Failed-clause-gives t c =
     let p : Evaluates answer_of (values_out c.args.self.now.tasks.now c.args.depth c.args.task.now c.args.arguments.now) c.args.met.now c.args.met.now (Ok (outcome.Failed c.in-Err-Failed.failure)) =
-    enter_unbound c.args.self.now.tasks.now c.args.depth c.args.task.now c.args.arguments.now c.code.result c.in-Some.code (c.code.ensures c.args.self.now.tasks.now c.requires.registered) c.in-Some.is c.deref.result.now c.deref.ensures c.as_str.result.now c.as_str.ensures.value c.bind.result c.bind.ensures
+    enter_unbound c.args.self.now.tasks.now c.args.depth c.args.task.now c.args.arguments.now c.code_named.result c.in-Some.code (c.code_named.ensures c.args.self.now.tasks.now c.requires.registered) c.in-Some.is c.deref.result.now c.deref.ensures c.as_str.result.now c.as_str.ensures.value c.bind.result c.bind.ensures
     c.args.met.now c.in-Err-Failed.failure c.requires.few (c.in-Err-Failed.is ∙ ap Err c.in-Err-Failed.field-0-is) in
     rw c.in-Err-Failed.field-0-is p
 
@@ -161,3 +174,8 @@ pub pairs-returns-clause-gives : goal.pairs-returns-clause-gives
 unfolding seconds_out
 pairs-returns-clause-gives t c =
     done fresh.beside (fresh.second (at_depth c.args.self.now.tasks.now c.args.depth)) c.args.pairs.now c.loop-key.key-index c.args.met.now c.loop-key.met c.loop-key.gathered (omega arith) c.loop-key.invariant
+
+pub step-returns-in-Catch-clause-gives : goal.step-returns-in-Catch-clause-gives
+step-returns-in-Catch-clause-gives t c =
+    let is = c.in-Catch.is ∙ ap (λ tried. lazy.Catch tried c.in-Catch.class c.in-Catch.recover) (sym c.get-in-Catch.ensures) in
+    step_catch c.args.self.now.tasks.now c.args.expr.now c.args.depth c.args.met.now c.catch.new.met c.get-in-Catch.result.now c.in-Catch.class c.in-Catch.recover c.catch.result is c.catch.ensures.gives

@@ -1,6 +1,6 @@
 use Rattle.std.proofs.Common.{◌+◌, ◌*◌}
 use Rattle.rd_top.specs.Evaluating.{at_depth}
-use Rattle.rd_top.specs.Fresh as fresh
+use Rattle.rd_registry.specs.Fresh as fresh
 use Rattle.rd_top.proofs.Parts.{Stands}
 use Rattle.rd_top.proofs.evaluate.Evaluation.+evaluate.Given as goal
 
@@ -30,6 +30,24 @@ decreases-list l = 6 * l.depth + 2
 
 abbrev pub decreases-dict : goal.decreases-dict
 decreases-dict l = 6 * l.depth + 2
+
+abbrev pub decreases-operation : goal.decreases-operation
+decreases-operation l = 6 * l.depth + 2
+
+abbrev pub decreases-branch : goal.decreases-branch
+decreases-branch l = 6 * l.depth + 1
+
+abbrev pub decreases-mapped : goal.decreases-mapped
+decreases-mapped l = 6 * l.depth + 2
+
+abbrev pub decreases-map : goal.decreases-map
+decreases-map l = 6 * l.depth + 3
+
+abbrev pub decreases-recovered : goal.decreases-recovered
+decreases-recovered l = 6 * l.depth + 2
+
+abbrev pub decreases-catch : goal.decreases-catch
+decreases-catch l = 6 * l.depth + 3
 
 abbrev pub decreases-enter : goal.decreases-enter
 decreases-enter l = 6 * l.depth + 3
