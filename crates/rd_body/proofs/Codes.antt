@@ -1,5 +1,6 @@
 -- Code with numbers in the place of names does what the code means.
 use Rattle.std.proofs.Common.{◌≡◌, ℕ, zero, suc, Bool, true, false, if◌then◌else◌, List, [], ◌∷◌, ◌++◌, map, Option, None, Some, slice_get, refl, sym, ap, subst, ◌∙◌, arith}
+use Rattle.std.proofs.lemmas.List.{map-append}
 use Rattle.std.proofs.lemmas.List.Elements.{Contains-append_left, Contains-push}
 use Rattle.std.proofs.lemmas.Map.Views.{Contains-from_any}
 use Rattle.std.proofs.lemmas.Slice.Eq.{bytes_eq-Decides}
@@ -13,17 +14,19 @@ use Rattle.rd_value.specs.declared.value.Datum.TheOpen.{Datum-F}
 use Rattle.rd_value.specs.declared.expr.Lazy.TheVariants as lazy
 use Rattle.rd_value.specs.declared.signature.Parameter.{Parameter}
 use Rattle.rd_tree.specs.declared.tree.Statement.{Statement}
-use Rattle.rd_names.specs.Names.{is_among, with_name}
+use Rattle.rd_names.specs.Names.{is_among, with_name, with_names}
+use Rattle.rd_names.specs.Special.{special_named}
 use Rattle.rd_names.proofs.Walking.{map_both}
 use Rattle.rd_routine.specs.declared.routine.Word.{Word}
 use Rattle.rd_code.specs.declared.mention.Mention.{Mention}
 use Rattle.rd_code.specs.declared.named.Helper.{Helper}
 use Rattle.rd_code.specs.declared.named.NamedUse.{NamedUse}
-use Rattle.rd_code.specs.Mentions.{mentions_in_block}
+use Rattle.rd_code.specs.Mentions.{plain, mentions_in_block, named_in_block}
+use Rattle.rd_body.proofs.MentionNames.{name_of, names, block_names}
 use Rattle.rd_code.specs.Numbering.{place, place_among, use_among, word_by, word_or, word_in, with_mentions, mentions_within, texts_within, literal_at, literal_value, numbered_parameter, numbered, numbered_helper}
 use Rattle.rd_code.specs.Renaming.{renamed_first}
 use Rattle.rd_interpreter.specs.Body as body
-use Rattle.rd_interpreter.specs.Body.{literal, whole}
+use Rattle.rd_interpreter.specs.Body.{kind, literal, whole}
 use Rattle.rd_interpreter.specs.Running.{own, routine_of, parameter_of}
 use Rattle.rd_body.specs.Code.{parameter_with_literal, function_with, helper_with, meaning_of}
 use Rattle.rd_body.specs.Renaming.{mentions_of, IsRenamed, AreRenamed}
@@ -63,6 +66,14 @@ among texts text h = (h.0, (h.1, sym h.2))
 
 -- ---- one function
 
+-- the texts depend on names alone
+with_same : (texts : List (List ℕ)) (xs ys : List (Mention (List ℕ))) → names xs ≡ names ys → with_mentions texts xs ≡ with_mentions texts ys
+with_same texts xs ys e = by_names texts xs ∙ ap (with_names texts) e ∙ sym (by_names texts ys)
+  where
+    by_names : (texts : List (List ℕ)) (ms : List (Mention (List ℕ))) → with_mentions texts ms ≡ with_names texts (names ms)
+    by_names texts [] = refl
+    by_names texts (m ∷ ms) = by_names (with_name texts m.name) ms
+
 spelled : (text : List ℕ) (o : Option Word) → (word_or text o).spelling ≡ text
 spelled text None = refl
 spelled text (Some w) = refl
@@ -95,8 +106,15 @@ module _ (helpers : List Helper) (uses : List NamedUse) where
     abbrev here : body.Routine (List ℕ) FileValue
     here = function_with helpers uses ps block
 
-    mentions_same : mentions_of here ≡ mentions_within ps block
-    mentions_same = ap (λ ms. ms ++ mentions_in_block block) (map_both _ (parameter_with_literal {F = FileValue}) ps)
+    abbrev parameter_names : List (Mention (List ℕ))
+    parameter_names = map (λ p. plain p.name) ps
+
+    -- the texts are those of all that stand in the function
+    texts_same : with_mentions [] (mentions_of here) ≡ texts_within ps block
+    texts_same =
+        ap (λ ms. with_mentions [] (ms ++ mentions_in_block (kind here) block)) (map_both _ (parameter_with_literal {F = FileValue}) ps)
+        ∙ with_same [] (parameter_names ++ mentions_in_block (kind here) block) (mentions_within ps block)
+        (map-append name_of parameter_names (mentions_in_block (kind here) block) ∙ ap (λ ns. names parameter_names ++ ns) (block_names (kind here) special_named block) ∙ sym (map-append name_of parameter_names (named_in_block block)))
 
     known : (name : List ℕ) → word name ≡ word_of here name
     known name = ap (λ t. record { spelling = t; callee = (word name).callee; class = (word name).class }) (spelled name (option_map (word_by (place_among 0 helpers)) (use_among uses name)))
@@ -108,7 +126,7 @@ module _ (helpers : List Helper) (uses : List NamedUse) where
       words = refl;
       parameters = parameters_numbered (texts_within ps block) ps;
       block = refl;
-      all = λ m u. among (texts_within ps block) m.name (texts_put (mentions_within ps block) [] m (subst (λ (ms : List (Mention (List ℕ))). IsAmong ms m) mentions_same u));
+      all = λ m u. among (texts_within ps block) m.name (subst (λ (texts : List (List ℕ)). Contains texts m.name) texts_same (texts_put (mentions_of here) [] m u));
     }
 
     pub is_renamed : IsRenamed ◌≡◌ here (routine_of (numbered word ps block))

@@ -47,6 +47,18 @@ module _ {F G : Type 0} (h : F → G) where
   unfolding made_expr.roll-Lazy denote.Hole.Carrier.roll
   call_of_with_files task es ks = fold-roll-Lazy F (Lazy G) (λ x. made_expr.roll-Lazy G (with_file_expr h x)) (Lazy-F.Call task es ks)
 
+  pub cond_of_with_files : (a b c : Lazy F) → with_files_expr h (lazy.Cond a b c) ≡ lazy.Cond (with_files_expr h a) (with_files_expr h b) (with_files_expr h c)
+  unfolding made_expr.roll-Lazy denote.Hole.Carrier.roll
+  cond_of_with_files a b c = fold-roll-Lazy F (Lazy G) (λ x. made_expr.roll-Lazy G (with_file_expr h x)) (Lazy-F.Cond a b c)
+
+  pub map_of_with_files : (task : List ℕ) (e : Lazy F) → with_files_expr h (lazy.Map task e) ≡ lazy.Map task (with_files_expr h e)
+  unfolding made_expr.roll-Lazy denote.Hole.Carrier.roll
+  map_of_with_files task e = fold-roll-Lazy F (Lazy G) (λ x. made_expr.roll-Lazy G (with_file_expr h x)) (Lazy-F.Map task e)
+
+  pub catch_of_with_files : (e : Lazy F) (class : Class) (recover : List ℕ) → with_files_expr h (lazy.Catch e class recover) ≡ lazy.Catch (with_files_expr h e) class recover
+  unfolding made_expr.roll-Lazy denote.Hole.Carrier.roll
+  catch_of_with_files e class recover = fold-roll-Lazy F (Lazy G) (λ x. made_expr.roll-Lazy G (with_file_expr h x)) (Lazy-F.Catch e class recover)
+
   held_value : (v : Datum F) (w : Datum G) → with_files h v ≡ w → lazy.Val w ≡ with_files_expr h (lazy.Val v)
   held_value v w e = sym (val_with_files h v ∙ ap lazy.Val e)
 

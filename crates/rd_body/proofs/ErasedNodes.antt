@@ -3,6 +3,7 @@ use Rattle.std.proofs.Common.{◌≡◌, ℕ, Bool, true, false, List, [], ◌�
 use Rattle.std.proofs.Math.Path.{fun_ext}
 use Rattle.std.specs.List.{AllZip}
 use Rattle.std.specs.Option.{option_map}
+use Rattle.rd_value.specs.declared.class.Class.{Class}
 use Rattle.rd_value.specs.declared.value.ErrorValue.{ErrorValue}
 use Rattle.rd_value.specs.declared.value.FileValue.{FileValue}
 use Rattle.rd_value.specs.declared.expr.Lazy.{Lazy}
@@ -18,15 +19,21 @@ use Rattle.rd_tree.specs.declared.tree.Operator.{Operator}
 use Rattle.rd_tree.specs.declared.tree.Node.{Node}
 use Rattle.rd_tree.specs.declared.tree.Node.TheViews.{roll-Node}
 use Rattle.rd_tree.specs.declared.tree.Node.TheOpen.{Node-F}
-use Rattle.rd_tree.specs.declared.tree.Node.TheFolds.{ind-Node, map-Node, fold-roll-Node}
+use Rattle.rd_tree.specs.declared.tree.Node.TheFolds.{ind-Node, map-Node}
 use Rattle.rd_routine.specs.declared.routine.Callee.{Callee}
 use Rattle.rd_routine.specs.declared.routine.Callee.TheVariants as callee
+use Rattle.rd_routine.specs.declared.special.Special.{Special}
+use Rattle.rd_routine.specs.declared.special.Special.TheVariants as special
+use Rattle.rd_routine.specs.Forms.{Form, Plain, Wrong, Mapping, Catching, form_with}
+use Rattle.rd_routine.proofs.Forms.{NoCall}
 use Rattle.rd_interpreter.specs.State.{State, Part, and_then, spend, answered, all, collected}
 use Rattle.rd_interpreter.specs.Held.{truth_of, iterated}
 use Rattle.rd_interpreter.specs.Operations.{kind_of, operate, turned}
 use Rattle.rd_interpreter.specs.Body as body
-use Rattle.rd_interpreter.specs.Body.{Routine, Calls, literal, with_pairs, operators, ends_at, path_of, node, node_at}
+use Rattle.rd_interpreter.specs.Body.{Routine, Calls, literal, with_pairs, operators, ends_at, path_of, kind, node}
+use Rattle.rd_interpreter.proofs.Layers.{call_layer, other_layer}
 use Rattle.rd_body.specs.Erasure.{with_files_parameter}
+use Rattle.rd_body.proofs.RenamedForms.{held_form, plain_form}
 use Rattle.rd_body.proofs.ErasedZips.{zip_map, operators_zip}
 use Rattle.rd_body.proofs.ErasedParts.{mapped, mapped_same, state_with, Carries, AllCarry, after, then_carries, either, spend_carries, spend_both, answered_carries, all_carries, collected_carries}
 use Rattle.rd_body.proofs.ErasedHeld.{pair_with, truth_of_with_files, iterated_with_files}
@@ -34,7 +41,7 @@ use Rattle.rd_body.proofs.ErasedMaking.{before, truth_same, measured_same, made_
 use Rattle.rd_body.proofs.ErasedOperations.{operate_same, negative_same, compare_same}
 use Rattle.rd_body.proofs.ErasedBuiltins.{arguments_same}
 use Rattle.rd_body.proofs.ErasedMethods.{receiver_same}
-use Rattle.rd_body.proofs.ErasedAnswers.{keyword_with, sides_with, call_of_with_files, nothing_held, literal_put, dict_put, with_pairs_put, path_put}
+use Rattle.rd_body.proofs.ErasedAnswers.{keyword_with, sides_with, call_of_with_files, cond_of_with_files, map_of_with_files, catch_of_with_files, nothing_held, literal_put, dict_put, with_pairs_put, path_put}
 
 module _ {F G : Type 0} (h : F → G) where
   -- what a helper gives, with the steps that it left
@@ -209,10 +216,35 @@ module _ {N F G : Type 0} (h : F → G) (f : Routine N F) where
     abbrev own_files : F → FileValue
     own_files = before h file
 
+    special_same : (made : Special) (es : List (Lazy F)) → Gives {N = N} h (body.made_special own_files calls f made es) (body.made_special file calls' other made (map (with_files_expr h) es))
+    special_same special.Cond [] = λ s. refl
+    special_same special.Cond (a ∷ []) = λ s. refl
+    special_same special.Cond (a ∷ b ∷ []) = λ s. refl
+    special_same special.Cond (a ∷ b ∷ c ∷ []) = measured_same h file (lazy.Cond a b c) (lazy.Cond (with_files_expr h a) (with_files_expr h b) (with_files_expr h c)) (sym (cond_of_with_files h a b c))
+    special_same special.Cond (a ∷ b ∷ c ∷ d ∷ es) = λ s. refl
+    special_same special.Catch es = λ s. refl
+    special_same special.Map es = λ s. refl
+
+    mapped_same_task : (task : N) (c : Callee) (e : Lazy F) → Gives h (body.mapped own_files calls f task c e) (body.mapped file calls' other task c (with_files_expr h e))
+    mapped_same_task task (callee.Task name) e = measured_same h file (lazy.Map name e) (lazy.Map name (with_files_expr h e)) (sym (map_of_with_files h name e))
+    mapped_same_task task (callee.Helper place) e = λ s. refl
+    mapped_same_task task (callee.Builtin builtin) e = λ s. refl
+    mapped_same_task task (callee.Special made) e = λ s. refl
+    mapped_same_task task callee.Unknown e = λ s. refl
+
+    caught_same : (caught : N) (o : Option Class) (task : N) (c : Callee) (e : Lazy F) → Gives h (body.caught own_files calls f caught o task c e) (body.caught file calls' other caught o task c (with_files_expr h e))
+    caught_same caught None task c e = λ s. refl
+    caught_same caught (Some o) task (callee.Task name) e = measured_same h file (lazy.Catch e o name) (lazy.Catch (with_files_expr h e) o name) (sym (catch_of_with_files h e o name))
+    caught_same caught (Some o) task (callee.Helper place) e = λ s. refl
+    caught_same caught (Some o) task (callee.Builtin builtin) e = λ s. refl
+    caught_same caught (Some o) task (callee.Special made) e = λ s. refl
+    caught_same caught (Some o) task callee.Unknown e = λ s. refl
+
     called_as : (name : N) (c : Callee) (es : List (Lazy F)) (ks : List (List ℕ × Lazy F)) → Gives h (body.called own_files calls f name c es ks) (body.called file calls' other name c (map (with_files_expr h) es) (map (keyword_with h) ks))
     called_as name (callee.Task task) es ks = measured_same h file (lazy.Call task es ks) (lazy.Call task (map (with_files_expr h) es) (map (keyword_with h) ks)) (sym (call_of_with_files h task es ks))
     called_as name (callee.Helper place) es ks = λ s. ap (λ x. body.after_call x (state_with h s)) (agree place es ks s.left) ∙ after_call_put h (calls place es ks s.left) s
     called_as name (callee.Builtin builtin) es ks = arguments_same h file builtin es
+    called_as name (callee.Special made) es ks = special_same made es
     called_as name callee.Unknown es ks = λ s. refl
 
     call_carries : (name : N) (ps : List (Part N F (Lazy F))) (qs : List (Part N G (Lazy G))) (ks : List (N × Part N F (Lazy F))) (ls : List (N × Part N G (Lazy G)))
@@ -252,10 +284,8 @@ module _ {N F G : Type 0} (h : F → G) (f : Routine N F) where
     abbrev pub NodeCarries : Node N → Type 0
     NodeCarries n = Gives h (here_one n) (there_one n)
 
-    at_layer : (y : Node-F N (Node N)) → Gives h (body.node_at own_files calls f (map-Node N (Node N) (Part N F (Lazy F)) here_one y)) (body.node_at file calls' other (map-Node N (Node N) (Part N G (Lazy G)) there_one y)) → NodeCarries (roll-Node N y)
-    unfolding node
-    at_layer y go =
-        subst₂ (Gives h) (sym (fold-roll-Node N (Part N F (Lazy F)) (node_at own_files calls f) y)) (sym (fold-roll-Node N (Part N G (Lazy G)) (node_at file calls' other) y)) go
+    at_layer : (y : Node-F N (Node N)) → NoCall y → Gives h (body.node_at own_files calls f (map-Node N (Node N) (Part N F (Lazy F)) here_one y)) (body.node_at file calls' other (map-Node N (Node N) (Part N G (Lazy G)) there_one y)) → NodeCarries (roll-Node N y)
+    at_layer y none go = subst₂ (Gives h) (sym (other_layer own_files calls f y none)) (sym (other_layer file calls' other y none)) go
 
     abbrev Held : Type 0
     Held = (n : Node N) × NodeCarries n
@@ -297,28 +327,48 @@ module _ {N F G : Type 0} (h : F → G) (f : Routine N F) where
     pairs [] = tt
     pairs (x ∷ hs) = ((x.0.1, x.1.1), pairs hs)
 
+    -- ---- calls
+
+    formed_carries : (c : Form N Held) (name : N) (hs : List Held) (ks : List (N × Held))
+        → Gives h (body.call_at own_files calls f (form_with (λ n. n) here c) name (here_all hs) (seconds here_one (seconds node_of ks))) (body.call_at file calls' other (form_with (λ n. n) there c) name (there_all hs) (seconds there_one (seconds node_of ks)))
+    formed_carries Plain name hs ks = call_carries name (here_all hs) (there_all hs) (seconds here_one (seconds node_of ks)) (seconds there_one (seconds node_of ks)) (parts hs) (keywords ks)
+    formed_carries Wrong name hs ks = call_carries name (here_all hs) (there_all hs) (seconds here_one (seconds node_of ks)) (seconds there_one (seconds node_of ks)) (parts hs) (keywords ks)
+    formed_carries (Mapping task x) name hs ks =
+        spend_carries h (with_files_expr h) 1 (λ t. and_then (here x t) (λ e u. body.mapped own_files calls f task (f.callee task) e u)) (λ t. and_then (there x t) (λ e u. body.mapped file calls' other task (f.callee task) e u))
+        (then_carries h (with_files_expr h) (with_files_expr h) (here x) (there x) _ _ x.1 (mapped_same_task task (f.callee task)))
+    formed_carries (Catching x caught task) name hs ks =
+        spend_carries h (with_files_expr h) 1 (λ t. and_then (here x t) (λ e u. body.caught own_files calls f caught (f.class_of caught) task (f.callee task) e u))
+        (λ t. and_then (there x t) (λ e u. body.caught file calls' other caught (f.class_of caught) task (f.callee task) e u))
+        (then_carries h (with_files_expr h) (with_files_expr h) (here x) (there x) _ _ x.1 (caught_same caught (f.class_of caught) task (f.callee task)))
+
+    call_step : (name : N) (hs : List Held) (ks : List (N × Held)) → NodeCarries (roll-Node N (Node-F.Call name (map node_of hs) (seconds node_of ks)))
+    call_step name hs ks =
+        let ps = map node_of hs in
+        let ls = seconds node_of ks in
+        subst₂ (Gives h) (sym (call_layer own_files calls f name ps ls ∙ ap (λ c. body.call_at own_files calls f c name (here_all hs) (seconds here_one ls)) (plain_form node_of here_one (kind f name) hs ks)))
+        (sym (call_layer file calls' other name ps ls ∙ ap (λ c. body.call_at file calls' other c name (there_all hs) (seconds there_one ls)) (plain_form node_of there_one (kind f name) hs ks)))
+        (formed_carries (held_form node_of (kind f name) hs ks) name hs ks)
+
     step : (y : Node-F N Held) → NodeCarries (roll-Node N (map-Node N Held (Node N) node_of y))
-    step (Node-F.Lit v) = at_layer (Node-F.Lit v) (spend_carries h (with_files_expr h) 1 (λ t. Ok (literal v, t)) (λ t. Ok (literal v, t)) (λ t. ap (λ e. Ok (e, state_with h t)) (literal_put h v)))
+    step (Node-F.Lit v) = at_layer (Node-F.Lit v) tt (spend_carries h (with_files_expr h) 1 (λ t. Ok (literal v, t)) (λ t. Ok (literal v, t)) (λ t. ap (λ e. Ok (e, state_with h t)) (literal_put h v)))
     step (Node-F.Name name) =
-        at_layer (Node-F.Name name) (spend_carries h (with_files_expr h) 1 (λ t. body.found f name (t.names name) t) (λ t. body.found other name (t.names name) t) (λ t. found_carries name (t.names name) t))
-    step (Node-F.Call name hs ks) =
-        at_layer (Node-F.Call name (map node_of hs) (seconds node_of ks))
-        (call_carries name (here_all hs) (there_all hs) (seconds here_one (seconds node_of ks)) (seconds there_one (seconds node_of ks)) (parts hs) (keywords ks))
-    step (Node-F.Method x name hs) = at_layer (Node-F.Method x.0 name (map node_of hs)) (method_carries h file (here x) (there x) name (here_all hs) (there_all hs) x.1 (parts hs))
-    step (Node-F.Index a b) = at_layer (Node-F.Index a.0 b.0) (index_carries h file (here a) (here b) (there a) (there b) a.1 b.1)
-    step (Node-F.Path a) = at_layer (Node-F.Path a.0) (path_carries h file (here a) (there a) a.1)
-    step (Node-F.Neg a) = at_layer (Node-F.Neg a.0) (negation_carries h file (here a) (there a) a.1)
-    step (Node-F.Not a) = at_layer (Node-F.Not a.0) (inversion_carries h (here a) (there a) a.1)
+        at_layer (Node-F.Name name) tt (spend_carries h (with_files_expr h) 1 (λ t. body.found f name (t.names name) t) (λ t. body.found other name (t.names name) t) (λ t. found_carries name (t.names name) t))
+    step (Node-F.Call name hs ks) = call_step name hs ks
+    step (Node-F.Method x name hs) = at_layer (Node-F.Method x.0 name (map node_of hs)) tt (method_carries h file (here x) (there x) name (here_all hs) (there_all hs) x.1 (parts hs))
+    step (Node-F.Index a b) = at_layer (Node-F.Index a.0 b.0) tt (index_carries h file (here a) (here b) (there a) (there b) a.1 b.1)
+    step (Node-F.Path a) = at_layer (Node-F.Path a.0) tt (path_carries h file (here a) (there a) a.1)
+    step (Node-F.Neg a) = at_layer (Node-F.Neg a.0) tt (negation_carries h file (here a) (there a) a.1)
+    step (Node-F.Not a) = at_layer (Node-F.Not a.0) tt (inversion_carries h (here a) (there a) a.1)
     step (Node-F.Chain a hs) =
-        at_layer (Node-F.Chain a.0 (seconds node_of hs)) (chain_carries h file (here a) (there a) (seconds here_one (seconds node_of hs)) (seconds there_one (seconds node_of hs)) a.1 (links hs))
-    step (Node-F.Compare c a b) = at_layer (Node-F.Compare c a.0 b.0) (comparing_carries h file c (here a) (here b) (there a) (there b) a.1 b.1)
-    step (Node-F.And hs) = at_layer (Node-F.And (map node_of hs)) (operands_carry h false (here_all hs) (there_all hs) (parts hs))
-    step (Node-F.Or hs) = at_layer (Node-F.Or (map node_of hs)) (operands_carry h true (here_all hs) (there_all hs) (parts hs))
-    step (Node-F.Cond a b c) = at_layer (Node-F.Cond a.0 b.0 c.0) (choice_carries h (here a) (here b) (here c) (there a) (there b) (there c) a.1 b.1 c.1)
-    step (Node-F.List hs) = at_layer (Node-F.List (map node_of hs)) (items_carry h file (here_all hs) (there_all hs) (parts hs))
-    step (Node-F.Dict hs) = at_layer (Node-F.Dict (couples node_of hs)) (pairs_carry h file (couples here_one (couples node_of hs)) (couples there_one (couples node_of hs)) (pairs hs))
+        at_layer (Node-F.Chain a.0 (seconds node_of hs)) tt (chain_carries h file (here a) (there a) (seconds here_one (seconds node_of hs)) (seconds there_one (seconds node_of hs)) a.1 (links hs))
+    step (Node-F.Compare c a b) = at_layer (Node-F.Compare c a.0 b.0) tt (comparing_carries h file c (here a) (here b) (there a) (there b) a.1 b.1)
+    step (Node-F.And hs) = at_layer (Node-F.And (map node_of hs)) tt (operands_carry h false (here_all hs) (there_all hs) (parts hs))
+    step (Node-F.Or hs) = at_layer (Node-F.Or (map node_of hs)) tt (operands_carry h true (here_all hs) (there_all hs) (parts hs))
+    step (Node-F.Cond a b c) = at_layer (Node-F.Cond a.0 b.0 c.0) tt (choice_carries h (here a) (here b) (here c) (there a) (there b) (there c) a.1 b.1 c.1)
+    step (Node-F.List hs) = at_layer (Node-F.List (map node_of hs)) tt (items_carry h file (here_all hs) (there_all hs) (parts hs))
+    step (Node-F.Dict hs) = at_layer (Node-F.Dict (couples node_of hs)) tt (pairs_carry h file (couples here_one (couples node_of hs)) (couples there_one (couples node_of hs)) (pairs hs))
     step (Node-F.Comp a name b hs) =
-        at_layer (Node-F.Comp a.0 name b.0 (map node_of hs)) (comprehended_carries (here a) (there a) name (here_all hs) (there_all hs) a.1 (parts hs) (here b) (there b) b.1)
+        at_layer (Node-F.Comp a.0 name b.0 (map node_of hs)) tt (comprehended_carries (here a) (there a) name (here_all hs) (there_all hs) a.1 (parts hs) (here b) (there b) b.1)
 
     pub node_carries : (n : Node N) → NodeCarries n
     node_carries = ind-Node N NodeCarries (λ x y is. subst (λ z. NodeCarries (roll-Node N z)) is (step y))

@@ -1,3 +1,4 @@
+pub mod MentionNames
 pub mod Codes
 pub mod ErasedAnswers
 pub mod ErasedBodies
@@ -12,6 +13,7 @@ pub mod ErasedParts
 pub mod ErasedStatements
 pub mod ErasedZips
 pub mod Renamed
+pub mod RenamedForms
 pub mod RenamedMakings
 pub mod RenamedNodes
 pub mod RenamedParts

@@ -12,7 +12,7 @@ use Rattle.rd_value.proofs.Ind.{Each}
 use Rattle.rd_interpreter.specs.State.{Ran}
 use Rattle.rd_interpreter.specs.Builtins.{then_}
 use Rattle.rd_interpreter.specs.Body as body
-use Rattle.rd_interpreter.specs.Body.{Routine, Calls, run, calling, whole, bound, opened, result_of, first_state, with_names, with_name, reduced, too_many_calls, most_calls, most_steps}
+use Rattle.rd_interpreter.specs.Body.{Routine, Calls, kind, run, calling, whole, bound, opened, result_of, first_state, with_names, with_name, reduced, too_many_calls, most_calls, most_steps}
 use Rattle.rd_code.specs.declared.mention.Mention.{Mention}
 use Rattle.rd_code.specs.Mentions.{plain, mentions_in_block}
 use Rattle.rd_code.specs.Renaming.{renamed_first, renamed_statement}
@@ -40,10 +40,10 @@ module _ {N M F : Type 0} (At : ℕ → ℕ → Type 0) (r : N → M) (f : Routi
   parameter_mentions ps = map (λ p. plain p.0) ps
 
   parameters_used : Each Used (parameter_mentions f.parameters)
-  parameters_used = each_left Used (parameter_mentions f.parameters) (mentions_in_block f.block) all_used
+  parameters_used = each_left Used (parameter_mentions f.parameters) (mentions_in_block (kind f) f.block) all_used
 
-  block_used : Each Used (mentions_in_block f.block)
-  block_used = each_right Used (parameter_mentions f.parameters) (mentions_in_block f.block) all_used
+  block_used : Each Used (mentions_in_block (kind f) f.block)
+  block_used = each_right Used (parameter_mentions f.parameters) (mentions_in_block (kind f) f.block) all_used
 
   with_names_through : (ps : List (N × Option (Lazy F))) → Each Used (parameter_mentions ps) → (vs : List (Lazy F)) (names : M → Option (Lazy F))
       → with_names f (λ x. names (r x)) ps vs ≡ (λ x. with_names g names (map (renamed_first r) ps) vs (r x))

@@ -64,6 +64,7 @@ same_callee : (c d : Callee) → d ≡ c → SameCallee ◌≡◌ c d
 same_callee (callee.Helper place) d e = subst (IsHelperAt (λ other. place ≡ other)) (sym e) refl
 same_callee (callee.Task task) d e = e
 same_callee (callee.Builtin builtin) d e = e
+same_callee (callee.Special made) d e = e
 same_callee callee.Unknown d e = e
 
 -- what a function knows of a name

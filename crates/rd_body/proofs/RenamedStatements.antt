@@ -15,7 +15,7 @@ use Rattle.rd_tree.specs.declared.tree.Statement.TheFolds.{ind-Statement, map-St
 use Rattle.rd_interpreter.specs.State.{Part, and_then, spend, answered, in_order, each, loop}
 use Rattle.rd_interpreter.specs.Held.{iterated}
 use Rattle.rd_interpreter.specs.Body as body
-use Rattle.rd_interpreter.specs.Body.{Routine, Calls, node, statement, statement_at, branch, branches, raising}
+use Rattle.rd_interpreter.specs.Body.{Routine, Calls, node, statement, statement_at, branch, branches, raising, kind}
 use Rattle.rd_names.specs.Uses.{joined}
 use Rattle.rd_code.specs.declared.mention.Mention.{Mention}
 use Rattle.rd_code.specs.Mentions.{plain, class, branch_mentions, mentions_in, statement_mentions_at, mentions_in_statement, mentions_in_block}
@@ -61,9 +61,24 @@ module _ {N M F : Type 0} (At : ℕ → ℕ → Type 0) (r : N → M) (Used : Me
     abbrev renamed_one : Statement N → Statement M
     renamed_one = renamed_statement r
 
+    abbrev names_in : Node N → List (Mention N)
+    names_in = mentions_in (kind f)
+
+    abbrev names_at : Statement-F N (List (Mention N)) → List (Mention N)
+    names_at = statement_mentions_at (kind f)
+
+    abbrev names_in_statement : Statement N → List (Mention N)
+    names_in_statement = mentions_in_statement (kind f)
+
+    abbrev names_in_block : List (Statement N) → List (Mention N)
+    names_in_block = mentions_in_block (kind f)
+
+    abbrev branch_names : Node N × List (List (Mention N)) → List (Mention N)
+    branch_names = branch_mentions (kind f)
+
     -- where the names are in use, a statement with other names does the same
     abbrev pub StatementCarries : Statement N → Type 0
-    StatementCarries x = Each Used (mentions_in_statement x) → Carries r (before x) (behind (renamed_one x))
+    StatementCarries x = Each Used (names_in_statement x) → Carries r (before x) (behind (renamed_one x))
 
     abbrev value : Node N → Part N F (Lazy F)
     value e = node file calls f e
@@ -71,17 +86,17 @@ module _ {N M F : Type 0} (At : ℕ → ℕ → Type 0) (r : N → M) (Used : Me
     abbrev value_behind : Node N → Part M F (Lazy F)
     value_behind e = node file calls' g (renamed r e)
 
-    value_carries : (e : Node N) → Each Used (mentions_in e) → Carries r (value e) (value_behind e)
+    value_carries : (e : Node N) → Each Used (names_in e) → Carries r (value e) (value_behind e)
     value_carries e us = node_carries At r Used f g agrees file calls calls' same_calls e us
 
-    at_layer : (y : Statement-F N (Statement N)) → (Each Used (statement_mentions_at (map-Statement N (Statement N) (List (Mention N)) mentions_in_statement y))
+    at_layer : (y : Statement-F N (Statement N)) → (Each Used (names_at (map-Statement N (Statement N) (List (Mention N)) names_in_statement y))
         → Carries r (statement_at file calls f (map-Statement N (Statement N) Done before y)) (statement_at file calls' g (map-Statement M (Statement M) DoneBehind behind (renamed_statement_at r (map-Statement N (Statement N) (Statement M) renamed_one y)))))
         → StatementCarries (roll-Statement N y)
     unfolding statement
     at_layer y go us =
         subst₂ (Carries r) (sym (fold-roll-Statement N Done (statement_at file calls f) y))
         (sym (ap behind (fold-roll-Statement N (Statement M) (λ x. roll-Statement M (renamed_statement_at r x)) y) ∙ fold-roll-Statement M DoneBehind (statement_at file calls' g) (renamed_statement_at r (map-Statement N (Statement N) (Statement M) renamed_one y))))
-        (go (subst (Each Used) (fold-roll-Statement N (List (Mention N)) statement_mentions_at y) us))
+        (go (subst (Each Used) (fold-roll-Statement N (List (Mention N)) names_at y) us))
 
     abbrev Held : Type 0
     Held = (x : Statement N) × StatementCarries x
@@ -95,11 +110,11 @@ module _ {N M F : Type 0} (At : ℕ → ℕ → Type 0) (r : N → M) (Used : Me
     abbrev there : List Held → List DoneBehind
     there hs = map behind (map renamed_one (map (λ h. h.0) hs))
 
-    parts : (hs : List Held) → Each Used (joined (map mentions_in_statement (map statement_of hs))) → AllCarry r (here hs) (there hs)
+    parts : (hs : List Held) → Each Used (joined (map names_in_statement (map statement_of hs))) → AllCarry r (here hs) (there hs)
     parts [] us = tt
-    parts (h ∷ hs) us = (h.1 (each_left Used (mentions_in_statement h.0) _ us), parts hs (each_right Used (mentions_in_statement h.0) _ us))
+    parts (h ∷ hs) us = (h.1 (each_left Used (names_in_statement h.0) _ us), parts hs (each_right Used (names_in_statement h.0) _ us))
 
-    body_carries : (hs : List Held) → Each Used (joined (map mentions_in_statement (map statement_of hs))) → Carries r (in_order (here hs)) (in_order (there hs))
+    body_carries : (hs : List Held) → Each Used (joined (map names_in_statement (map statement_of hs))) → Carries r (in_order (here hs)) (in_order (there hs))
     body_carries hs us = in_order_carries r _ _ (parts hs us)
 
     -- the blocks of some branches
@@ -115,13 +130,13 @@ module _ {N M F : Type 0} (At : ℕ → ℕ → Type 0) (r : N → M) (Used : Me
     abbrev branches_there : List (Node N × List Held) → List (Part M F (Lazy F) × DoneBehind)
     branches_there hs = map (branch file calls' g) (blocks_behind (map (renamed_branch r) (blocks renamed_one (blocks statement_of hs))))
 
-    branches_held : (hs : List (Node N × List Held)) → Each Used (joined (map branch_mentions (blocks mentions_in_statement (blocks statement_of hs))))
+    branches_held : (hs : List (Node N × List Held)) → Each Used (joined (map branch_names (blocks names_in_statement (blocks statement_of hs))))
         → AllZip (PairCarries r) (branches_here hs) (branches_there hs)
     branches_held [] us = tt
     branches_held (h ∷ hs) us =
-        let own = each_left Used (mentions_in h.0 ++ joined (map mentions_in_statement (map statement_of h.1))) _ us in (
-          (value_carries h.0 (each_left Used (mentions_in h.0) _ own), body_carries h.1 (each_right Used (mentions_in h.0) _ own)),
-          branches_held hs (each_right Used (mentions_in h.0 ++ joined (map mentions_in_statement (map statement_of h.1))) _ us),
+        let own = each_left Used (names_in h.0 ++ joined (map names_in_statement (map statement_of h.1))) _ us in (
+          (value_carries h.0 (each_left Used (names_in h.0) _ own), body_carries h.1 (each_right Used (names_in h.0) _ own)),
+          branches_held hs (each_right Used (names_in h.0 ++ joined (map names_in_statement (map statement_of h.1))) _ us),
         )
 
     for_carries : (name : N) (p : Part N F (Lazy F)) (q : Part M F (Lazy F)) (turn : Done) (turn' : DoneBehind) → Used (plain name) → Carries r p q → Carries r turn turn'
@@ -140,15 +155,15 @@ module _ {N M F : Type 0} (At : ℕ → ℕ → Type 0) (r : N → M) (Used : Me
         (λ v u. ap (λ t. Ok (None, t)) (set_carries At r Used f g agrees name (Some v) us.0 u)))
     step (Statement-F.For name e hs) =
         at_layer (Statement-F.For name e (map statement_of hs))
-        (λ us. for_carries name (value e) (value_behind e) (in_order (here hs)) (in_order (there hs)) us.0 (value_carries e (each_left Used (mentions_in e) _ us.1)) (body_carries hs (each_right Used (mentions_in e) _ us.1)))
+        (λ us. for_carries name (value e) (value_behind e) (in_order (here hs)) (in_order (there hs)) us.0 (value_carries e (each_left Used (names_in e) _ us.1)) (body_carries hs (each_right Used (names_in e) _ us.1)))
     step (Statement-F.While e hs) =
         at_layer (Statement-F.While e (map statement_of hs))
         (λ us. spend_carries r 1 (loop (body.tested (value e)) (in_order (here hs))) (loop (body.tested (value_behind e)) (in_order (there hs)))
         (loop_carries r (body.tested (value e)) (body.tested (value_behind e)) (in_order (here hs)) (in_order (there hs))
-        (tested_carries r (value e) (value_behind e) (value_carries e (each_left Used (mentions_in e) _ us))) (body_carries hs (each_right Used (mentions_in e) _ us))))
+        (tested_carries r (value e) (value_behind e) (value_carries e (each_left Used (names_in e) _ us))) (body_carries hs (each_right Used (names_in e) _ us))))
     step (Statement-F.If bs hs) =
         at_layer (Statement-F.If (blocks statement_of bs) (map statement_of hs))
-        (λ us. let names = joined (map branch_mentions (blocks mentions_in_statement (blocks statement_of bs))) in
+        (λ us. let names = joined (map branch_names (blocks names_in_statement (blocks statement_of bs))) in
         spend_carries r 1 (branches (branches_here bs) (in_order (here hs))) (branches (branches_there bs) (in_order (there hs)))
         (branches_carry r (branches_here bs) (branches_there bs) (in_order (here hs)) (in_order (there hs)) (branches_held bs (each_left Used names _ us)) (body_carries hs (each_right Used names _ us))))
     step (Statement-F.Return None) =
@@ -165,10 +180,10 @@ module _ {N M F : Type 0} (At : ℕ → ℕ → Type 0) (r : N → M) (Used : Me
     pub statement_carries : (x : Statement N) → StatementCarries x
     statement_carries = ind-Statement N StatementCarries (λ x y is. subst (λ z. StatementCarries (roll-Statement N z)) is (step y))
 
-    statements_carry : (xs : List (Statement N)) → Each Used (mentions_in_block xs) → AllCarry r (map before xs) (map behind (map renamed_one xs))
+    statements_carry : (xs : List (Statement N)) → Each Used (names_in_block xs) → AllCarry r (map before xs) (map behind (map renamed_one xs))
     statements_carry [] us = tt
-    statements_carry (x ∷ xs) us = (statement_carries x (each_left Used (mentions_in_statement x) _ us), statements_carry xs (each_right Used (mentions_in_statement x) _ us))
+    statements_carry (x ∷ xs) us = (statement_carries x (each_left Used (names_in_statement x) _ us), statements_carry xs (each_right Used (names_in_statement x) _ us))
 
     -- a block
-    pub block_carries : (xs : List (Statement N)) → Each Used (mentions_in_block xs) → Carries r (body.block file calls f xs) (body.block file calls' g (map renamed_one xs))
+    pub block_carries : (xs : List (Statement N)) → Each Used (names_in_block xs) → Carries r (body.block file calls f xs) (body.block file calls' g (map renamed_one xs))
     block_carries xs us = in_order_carries r _ _ (statements_carry xs us)

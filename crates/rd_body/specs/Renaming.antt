@@ -6,11 +6,11 @@ use Rattle.rd_routine.specs.declared.routine.Callee.TheVariants as callee
 use Rattle.rd_code.specs.declared.mention.Mention.{Mention}
 use Rattle.rd_code.specs.Mentions.{called, class, mentions_in_block, plain}
 use Rattle.rd_code.specs.Renaming.{renamed_first, renamed_statement}
-use Rattle.rd_interpreter.specs.Body.{Routine}
+use Rattle.rd_interpreter.specs.Body.{Routine, kind}
 
 -- the names of a function: its parameters, and then those of its block
 abbrev pub mentions_of : {N F : Type 0} → Routine N F → List (Mention N)
-mentions_of f = map (λ p. plain p.0) f.parameters ++ mentions_in_block f.block
+mentions_of f = map (λ p. plain p.0) f.parameters ++ mentions_in_block (kind f) f.block
 
 -- a helper at such a place
 abbrev pub IsHelperAt : (ℕ → Type 0) → Callee → Type 0

@@ -1,5 +1,5 @@
 -- Functions that are numbered by the same words.
-use Rattle.std.proofs.Common.{◌≡◌, ℕ, List, map, refl, ap, ◌∙◌}
+use Rattle.std.proofs.Common.{◌≡◌, ℕ, List, map, ap, ◌∙◌}
 use Rattle.std.proofs.Math.Path.{fun_ext}
 use Rattle.rd_value.specs.declared.signature.Parameter.{Parameter}
 use Rattle.rd_tree.specs.declared.tree.Statement.{Statement}

@@ -6,6 +6,10 @@ use Rattle.rd_value.specs.declared.class.Class.TheVariants as class
 use Rattle.rd_value.specs.Class.{name}
 use Rattle.rd_routine.specs.declared.builtin.Builtin.{Builtin}
 use Rattle.rd_routine.specs.declared.builtin.Builtin.TheVariants as builtin
+use Rattle.rd_routine.specs.declared.special.Special.{Special}
+use Rattle.rd_routine.specs.declared.routine.Callee.{Callee}
+use Rattle.rd_routine.specs.declared.routine.Callee.TheVariants as callee
+use Rattle.rd_names.specs.Special.{special_named}
 
 -- a builtin by its name
 abbrev pub builtin_named : List ℕ → Option Builtin
@@ -20,6 +24,18 @@ builtin_named text =
     else if bytes_eq text (codes "sorted") then Some builtin.Sorted
     else if bytes_eq text (codes "abs") then Some builtin.Abs
     else None
+
+abbrev pub builtin_callee : Option Builtin → Option Callee
+builtin_callee None = None
+builtin_callee (Some b) = Some (callee.Builtin b)
+
+abbrev pub special_or : Option Special → Option Builtin → Option Callee
+special_or None b = builtin_callee b
+special_or (Some s) b = Some (callee.Special s)
+
+-- what a builtin's name stands for
+abbrev pub built_in : List ℕ → Option Callee
+built_in text = special_or (special_named text) (builtin_named text)
 
 -- an error class by its name
 abbrev pub class_named : List ℕ → Option Class

@@ -1,11 +1,13 @@
 -- The names that stand in a tree, each with its role.
-use Rattle.std.specs.Prelude.{List, [], ◌∷◌, ◌++◌, map, Option, None, Some}
+use Rattle.std.specs.Prelude.{ℕ, List, [], ◌∷◌, ◌++◌, map, Option, None, Some}
 use Rattle.rd_tree.specs.declared.tree.Node.{Node}
 use Rattle.rd_tree.specs.declared.tree.Node.TheOpen.{Node-F}
-use Rattle.rd_tree.specs.declared.tree.Node.TheFolds.{fold-Node}
 use Rattle.rd_tree.specs.declared.tree.Statement.{Statement}
 use Rattle.rd_tree.specs.declared.tree.Statement.TheOpen.{Statement-F}
 use Rattle.rd_tree.specs.declared.tree.Statement.TheFolds.{fold-Statement}
+use Rattle.rd_routine.specs.declared.special.Special.{Special}
+use Rattle.rd_routine.specs.Forms.{Form, Plain, Wrong, Mapping, Catching, folded}
+use Rattle.rd_names.specs.Special.{special_named}
 use Rattle.rd_names.specs.Uses.{joined}
 use Rattle.rd_code.specs.declared.mention.Role.{Role}
 use Rattle.rd_code.specs.declared.mention.Role.TheVariants as role
@@ -19,11 +21,11 @@ module _ {N : Type 0} where
   abbrev pub plain : N → Mention N
   plain = mention role.Plain
 
-  -- a name that is called
+  -- a name that is called, or that of a task in `map_` and `catch`
   abbrev pub called : N → Mention N
   called = mention role.Called
 
-  -- the class of `raise`
+  -- the class of `raise` and of `catch`
   abbrev pub class : N → Mention N
   class = mention role.Class
 
@@ -33,11 +35,18 @@ module _ {N : Type 0} where
   abbrev pub pair_mentions : List (Mention N) × List (Mention N) → List (Mention N)
   pair_mentions p = p.0 ++ p.1
 
+  -- the names that stand in a call, by its form
+  abbrev pub call_mentions : Form N (List (Mention N)) → N → List (List (Mention N)) → List (N × List (Mention N)) → List (Mention N)
+  call_mentions Plain name positional keywords = called name ∷ (joined positional ++ joined (map keyword_mentions keywords))
+  call_mentions Wrong name positional keywords = called name ∷ (joined positional ++ joined (map keyword_mentions keywords))
+  call_mentions (Mapping task list) name positional keywords = called name ∷ (called task ∷ list)
+  call_mentions (Catching tried caught recover) name positional keywords = called name ∷ (tried ++ (class caught ∷ (called recover ∷ [])))
+
   -- the names that stand in one layer of an expression
   abbrev pub mentions_at : Node-F N (List (Mention N)) → List (Mention N)
   mentions_at (Node-F.Lit v) = []
   mentions_at (Node-F.Name name) = plain name ∷ []
-  mentions_at (Node-F.Call name positional keywords) = called name ∷ (joined positional ++ joined (map keyword_mentions keywords))
+  mentions_at (Node-F.Call name positional keywords) = call_mentions Plain name positional keywords
   mentions_at (Node-F.Method receiver name others) = receiver ++ joined others
   mentions_at (Node-F.Index receiver place) = receiver ++ place
   mentions_at (Node-F.Path receiver) = receiver
@@ -52,9 +61,11 @@ module _ {N : Type 0} where
   mentions_at (Node-F.Dict pairs) = joined (map pair_mentions pairs)
   mentions_at (Node-F.Comp part name iterable conditions) = part ++ (plain name ∷ (iterable ++ joined conditions))
 
+-- By `kind` a call of a name makes something special.
+module _ {N : Type 0} (kind : N → Option Special) where
   -- the names that stand in an expression
   abbrev pub mentions_in : Node N → List (Mention N)
-  mentions_in = fold-Node N (List (Mention N)) mentions_at
+  mentions_in = folded kind call_mentions mentions_at
 
   abbrev pub branch_mentions : Node N × List (List (Mention N)) → List (Mention N)
   branch_mentions b = mentions_in b.0 ++ joined b.1
@@ -81,3 +92,17 @@ module _ {N : Type 0} where
   -- the names that stand in a block
   abbrev pub mentions_in_block : List (Statement N) → List (Mention N)
   mentions_in_block statements = joined (map mentions_in_statement statements)
+
+-- ---- in a source, whose names are texts
+
+-- the names that stand in an expression
+abbrev pub named_in : Node (List ℕ) → List (Mention (List ℕ))
+named_in = mentions_in special_named
+
+-- the names that stand in a statement
+abbrev pub named_in_statement : Statement (List ℕ) → List (Mention (List ℕ))
+named_in_statement = mentions_in_statement special_named
+
+-- the names that stand in a block
+abbrev pub named_in_block : List (Statement (List ℕ)) → List (Mention (List ℕ))
+named_in_block = mentions_in_block special_named

@@ -10,10 +10,10 @@ use Rattle.rd_value.specs.declared.value.Datum.TheOpen.{Datum-F}
 use Rattle.rd_value.specs.declared.signature.Parameter.{Parameter}
 use Rattle.rd_tree.specs.declared.tree.Statement.{Statement}
 use Rattle.rd_names.specs.Names.{with_name}
-use Rattle.rd_routine.specs.declared.builtin.Builtin.{Builtin}
 use Rattle.rd_routine.specs.declared.routine.Callee.{Callee}
 use Rattle.rd_routine.specs.declared.routine.Callee.TheVariants as callee
 use Rattle.rd_routine.specs.declared.routine.Word.{Word}
+use Rattle.rd_routine.specs.Callees.{known}
 use Rattle.rd_routine.specs.declared.routine.Parameter as routine
 use Rattle.rd_routine.specs.declared.routine.Routine.{Routine}
 use Rattle.rd_code.specs.declared.mention.Mention.{Mention}
@@ -21,8 +21,8 @@ use Rattle.rd_code.specs.declared.named.UseKind.{UseKind}
 use Rattle.rd_code.specs.declared.named.UseKind.TheVariants as kind
 use Rattle.rd_code.specs.declared.named.NamedUse.{NamedUse}
 use Rattle.rd_code.specs.declared.named.Helper.{Helper}
-use Rattle.rd_code.specs.Known.{builtin_named, class_named}
-use Rattle.rd_code.specs.Mentions.{mentions_in_block, plain}
+use Rattle.rd_code.specs.Known.{built_in, class_named}
+use Rattle.rd_code.specs.Mentions.{named_in_block, plain}
 use Rattle.rd_code.specs.Renaming.{renamed_statement}
 
 -- ---- names
@@ -38,7 +38,7 @@ with_mentions words (m ∷ ms) = with_mentions (with_name words m.name) ms
 
 -- the names of a function: its parameters, and then those of its block
 abbrev pub mentions_within : List Parameter → List (Statement (List ℕ)) → List (Mention (List ℕ))
-mentions_within ps block = map (λ p. plain p.name) ps ++ mentions_in_block block
+mentions_within ps block = map (λ p. plain p.name) ps ++ named_in_block block
 
 -- the texts of a function's names, each once, in the order in which they come first
 abbrev pub texts_within : List Parameter → List (Statement (List ℕ)) → List (List ℕ)
@@ -60,15 +60,11 @@ abbrev pub helper_at : Option ℕ → Callee
 helper_at None = callee.Unknown
 helper_at (Some n) = callee.Helper n
 
-abbrev pub builtin_of : Option Builtin → Callee
-builtin_of None = callee.Unknown
-builtin_of (Some b) = callee.Builtin b
-
 -- what is called by a name of this kind, with the helper's place and the task's full name
 abbrev pub callee_by : UseKind → List ℕ → List ℕ → Option ℕ → Callee
 callee_by kind.Task name task place = callee.Task task
 callee_by kind.Helper name task place = helper_at place
-callee_by kind.Builtin name task place = builtin_of (builtin_named name)
+callee_by kind.Builtin name task place = known (built_in name)
 callee_by kind.ErrorClass name task place = callee.Unknown
 
 -- what is known of a name that is used

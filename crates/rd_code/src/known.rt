@@ -4,24 +4,27 @@ ghost use Rattle.std.specs.Prelude.{◌≡◌, is_some};
 ghost use Rattle.rd_names.specs.Names.{is_among, offered, error_classes};
 ghost use Rattle.rd_code.specs.Known as spec;
 
-use rd_routine::Builtin;
+use rd_routine::{Builtin, Callee, Special};
 use rd_value::class::Class;
 
-/// A builtin by its name.
-pub fn builtin_named(name: &str) -> Option<Builtin>
-    ensures value { result ≡ spec.builtin_named name.now }
+/// What a builtin's name stands for.
+pub fn built_in(name: &str) -> Option<Callee>
+    ensures value { result ≡ spec.built_in name.now }
     ensures offered { is_some result ≡ is_among offered name.now }
 {
     match name {
-        "len" => Some(Builtin::Len),
-        "str" => Some(Builtin::Str),
-        "int" => Some(Builtin::Int),
-        "range" => Some(Builtin::Range),
-        "sum" => Some(Builtin::Sum),
-        "min" => Some(Builtin::Min),
-        "max" => Some(Builtin::Max),
-        "sorted" => Some(Builtin::Sorted),
-        "abs" => Some(Builtin::Abs),
+        "len" => Some(Callee::Builtin(Builtin::Len)),
+        "str" => Some(Callee::Builtin(Builtin::Str)),
+        "int" => Some(Callee::Builtin(Builtin::Int)),
+        "range" => Some(Callee::Builtin(Builtin::Range)),
+        "sum" => Some(Callee::Builtin(Builtin::Sum)),
+        "min" => Some(Callee::Builtin(Builtin::Min)),
+        "max" => Some(Callee::Builtin(Builtin::Max)),
+        "sorted" => Some(Callee::Builtin(Builtin::Sorted)),
+        "abs" => Some(Callee::Builtin(Builtin::Abs)),
+        "cond" => Some(Callee::Special(Special::Cond)),
+        "catch" => Some(Callee::Special(Special::Catch)),
+        "map_" => Some(Callee::Special(Special::Map)),
         _ => None,
     }
 }

@@ -11,7 +11,7 @@ mod renaming;
 
 pub use code::TaskCode;
 pub use firsts::put_first;
-pub use known::{builtin_named, class_named};
+pub use known::{built_in, class_named};
 pub use mention::{Mention, Role, mentions_of};
 pub use named::{Helper, Helpers, NamedUse, NamedUses, UseKind};
 pub use renaming::{Renaming, renamed_block};

@@ -1,12 +1,15 @@
 //! The names that stand in a tree, each with its role.
 
 ghost use Rattle.std.specs.Prelude.{◌≡◌, ◌++◌, ◌∷◌, [], OnOk, IfOk, map};
+ghost use Rattle.rd_tree.specs.declared.tree.Node.TheVariants as node;
 ghost use Rattle.rd_names.specs.Uses.{joined};
-ghost use Rattle.rd_code.specs.Mentions.{called, mention, mentions_in, mentions_in_block, plain};
+ghost use Rattle.rd_code.specs.Mentions.{called, mention, named_in, named_in_block, plain};
 
 mod statement;
 
 use rd_base::{Copies, OutOfMemory, Text};
+use rd_names::special_named;
+use rd_routine::{Form, form_of};
 use rd_tree::{Node, Operator, Statement};
 use std::alloc::Global;
 
@@ -15,8 +18,9 @@ use std::alloc::Global;
 pub enum Role {
     /// A local, or the name of a keyword.
     Plain,
+    /// Also a task in `map_` and `catch`.
     Called,
-    /// Behind `raise`.
+    /// Behind `raise`, and in `catch`.
     Class,
 }
 
@@ -44,9 +48,9 @@ impl Mentions {
     }
 
     #[cycle(nodes)]
-    #[tactic(auto, using(crate::proofs::Mentions::behind))]
+    #[tactic(auto, using(crate::proofs::Mentions::behind, crate::proofs::Mentions::mentions_lit, crate::proofs::Mentions::mentions_name, crate::proofs::Mentions::mentions_method, crate::proofs::Mentions::mentions_index, crate::proofs::Mentions::mentions_path, crate::proofs::Mentions::mentions_neg, crate::proofs::Mentions::mentions_not, crate::proofs::Mentions::mentions_compare, crate::proofs::Mentions::mentions_and, crate::proofs::Mentions::mentions_or, crate::proofs::Mentions::mentions_list, crate::proofs::Mentions::mentions_cond, crate::proofs::Mentions::mentions_comp))]
     fn node(&mut self, node: &Node<Text>) -> Result<(), OutOfMemory>
-        ensures { OnOk result (self.new.all.items ≡ self.old.all.items ++ mentions_in node.now) }
+        ensures { OnOk result (self.new.all.items ≡ self.old.all.items ++ named_in node.now) }
     {
         match node {
             Node::Lit(_) => Ok(()),
@@ -82,17 +86,45 @@ impl Mentions {
     }
 
     #[cycle(nodes)]
-    #[tactic(auto, using(crate::proofs::Mentions::behind))]
+    #[tactic(auto, using(crate::proofs::Mentions::behind, crate::proofs::Mentions::mentions_call))]
     fn call(
         &mut self,
         name: &Text,
         positional: &[Node<Text>],
         keywords: &[(Text, Node<Text>)],
     ) -> Result<(), OutOfMemory>
-        ensures { let parts = joined (map mentions_in positional.now) ++ joined (map (λ k. plain k.0 ∷ mentions_in k.1) keywords.now) in
-            OnOk result (self.new.all.items ≡ self.old.all.items ++ (called name.now ∷ parts)) }
+        ensures { let call = node.Call name.now positional.now keywords.now in
+            OnOk result (self.new.all.items ≡ self.old.all.items ++ named_in call) }
     {
         self.add(Role::Called, name)?;
+        match form_of(special_named(name.as_str()), positional, keywords) {
+            Form::Plain | Form::Wrong => self.arguments(positional, keywords),
+            Form::Mapping { task, list } => {
+                self.add(Role::Called, task)?;
+                self.node(list)
+            }
+            Form::Catching {
+                tried,
+                class,
+                recover,
+            } => {
+                self.node(tried)?;
+                self.add(Role::Class, class)?;
+                self.add(Role::Called, recover)
+            }
+        }
+    }
+
+    #[cycle(nodes)]
+    #[tactic(auto, using(crate::proofs::Mentions::behind))]
+    fn arguments(
+        &mut self,
+        positional: &[Node<Text>],
+        keywords: &[(Text, Node<Text>)],
+    ) -> Result<(), OutOfMemory>
+        ensures { let behind = joined (map (λ k. plain k.0 ∷ named_in k.1) keywords.now) in
+            OnOk result (self.new.all.items ≡ self.old.all.items ++ (joined (map named_in positional.now) ++ behind)) }
+    {
         self.nodes(positional)?;
         self.keywords(keywords)
     }
@@ -100,7 +132,7 @@ impl Mentions {
     #[cycle(nodes)]
     #[tactic(auto, using(crate::proofs::Mentions::behind))]
     fn first(&mut self, first: &Node<Text>, others: &[Node<Text>]) -> Result<(), OutOfMemory>
-        ensures { OnOk result (self.new.all.items ≡ self.old.all.items ++ (mentions_in first.now ++ joined (map mentions_in others.now))) }
+        ensures { OnOk result (self.new.all.items ≡ self.old.all.items ++ (named_in first.now ++ joined (map named_in others.now))) }
     {
         self.node(first)?;
         self.nodes(others)
@@ -109,7 +141,7 @@ impl Mentions {
     #[cycle(nodes)]
     #[tactic(auto, using(crate::proofs::Mentions::behind))]
     fn both(&mut self, left: &Node<Text>, right: &Node<Text>) -> Result<(), OutOfMemory>
-        ensures { OnOk result (self.new.all.items ≡ self.old.all.items ++ (mentions_in left.now ++ mentions_in right.now)) }
+        ensures { OnOk result (self.new.all.items ≡ self.old.all.items ++ (named_in left.now ++ named_in right.now)) }
     {
         self.node(left)?;
         self.node(right)
@@ -123,7 +155,7 @@ impl Mentions {
         when_true: &Node<Text>,
         when_false: &Node<Text>,
     ) -> Result<(), OutOfMemory>
-        ensures { OnOk result (self.new.all.items ≡ self.old.all.items ++ (mentions_in test.now ++ (mentions_in when_true.now ++ mentions_in when_false.now))) }
+        ensures { OnOk result (self.new.all.items ≡ self.old.all.items ++ (named_in test.now ++ (named_in when_true.now ++ named_in when_false.now))) }
     {
         self.node(test)?;
         self.both(when_true, when_false)
@@ -136,7 +168,7 @@ impl Mentions {
         first: &Node<Text>,
         rest: &[(Operator, Node<Text>)],
     ) -> Result<(), OutOfMemory>
-        ensures { OnOk result (self.new.all.items ≡ self.old.all.items ++ (mentions_in first.now ++ joined (map (λ l. mentions_in l.1) rest.now))) }
+        ensures { OnOk result (self.new.all.items ≡ self.old.all.items ++ (named_in first.now ++ joined (map (λ l. named_in l.1) rest.now))) }
     {
         self.node(first)?;
         self.links(rest)
@@ -151,8 +183,8 @@ impl Mentions {
         iterable: &Node<Text>,
         condition: &[Node<Text>],
     ) -> Result<(), OutOfMemory>
-        ensures { let rest = mentions_in iterable.now ++ joined (map mentions_in condition.now) in
-            OnOk result (self.new.all.items ≡ self.old.all.items ++ (mentions_in element.now ++ (plain name.now ∷ rest))) }
+        ensures { let rest = named_in iterable.now ++ joined (map named_in condition.now) in
+            OnOk result (self.new.all.items ≡ self.old.all.items ++ (named_in element.now ++ (plain name.now ∷ rest))) }
     {
         self.node(element)?;
         self.add(Role::Plain, name)?;
@@ -162,7 +194,7 @@ impl Mentions {
     #[cycle(nodes)]
     #[tactic(auto, using(crate::proofs::Mentions::behind))]
     fn nodes(&mut self, nodes: &[Node<Text>]) -> Result<(), OutOfMemory>
-        ensures { OnOk result (self.new.all.items ≡ self.old.all.items ++ joined (map mentions_in nodes.now)) }
+        ensures { OnOk result (self.new.all.items ≡ self.old.all.items ++ joined (map named_in nodes.now)) }
     {
         for node in nodes {
             self.node(node)?;
@@ -173,7 +205,7 @@ impl Mentions {
     #[cycle(nodes)]
     #[tactic(auto, using(crate::proofs::Mentions::behind))]
     fn keywords(&mut self, keywords: &[(Text, Node<Text>)]) -> Result<(), OutOfMemory>
-        ensures { OnOk result (self.new.all.items ≡ self.old.all.items ++ (joined (map (λ k. plain k.0 ∷ mentions_in k.1) keywords.now))) }
+        ensures { OnOk result (self.new.all.items ≡ self.old.all.items ++ (joined (map (λ k. plain k.0 ∷ named_in k.1) keywords.now))) }
     {
         for keyword in keywords {
             self.add(Role::Plain, &keyword.0)?;
@@ -185,7 +217,7 @@ impl Mentions {
     #[cycle(nodes)]
     #[tactic(auto, using(crate::proofs::Mentions::behind))]
     fn links(&mut self, links: &[(Operator, Node<Text>)]) -> Result<(), OutOfMemory>
-        ensures { OnOk result (self.new.all.items ≡ self.old.all.items ++ (joined (map (λ l. mentions_in l.1) links.now))) }
+        ensures { OnOk result (self.new.all.items ≡ self.old.all.items ++ (joined (map (λ l. named_in l.1) links.now))) }
     {
         for link in links {
             self.node(&link.1)?;
@@ -196,7 +228,7 @@ impl Mentions {
     #[cycle(nodes)]
     #[tactic(auto, using(crate::proofs::Mentions::behind))]
     fn pairs(&mut self, pairs: &[(Node<Text>, Node<Text>)]) -> Result<(), OutOfMemory>
-        ensures { OnOk result (self.new.all.items ≡ self.old.all.items ++ (joined (map (λ p. mentions_in p.0 ++ mentions_in p.1) pairs.now))) }
+        ensures { OnOk result (self.new.all.items ≡ self.old.all.items ++ (joined (map (λ p. named_in p.0 ++ named_in p.1) pairs.now))) }
     {
         for pair in pairs {
             self.both(&pair.0, &pair.1)?;
@@ -210,7 +242,7 @@ pub fn mentions_of(
     alloc: Global,
     block: &[Statement<Text>],
 ) -> Result<Vec<Mention<Text>>, OutOfMemory>
-    ensures { IfOk result (λ all. all.items ≡ mentions_in_block block.now) }
+    ensures { IfOk result (λ all. all.items ≡ named_in_block block.now) }
 {
     let mut mentions = Mentions {
         alloc,

@@ -5,6 +5,7 @@ ghost use Rattle.std.specs.Option.{option_map};
 ghost use Rattle.std.specs.Str.{bytes_eq};
 ghost use Rattle.indexmap.specs.IndexMap.{get};
 ghost use Rattle.rd_names.specs.Names.{with_name};
+ghost use Rattle.rd_routine.specs.Callees as callees;
 ghost use Rattle.rd_code.specs.Known as known;
 ghost use Rattle.rd_code.specs.Mentions.{plain};
 ghost use Rattle.rd_code.specs.Numbering as spec;
@@ -12,7 +13,7 @@ ghost use Rattle.rd_code.specs.Numbering.{place_among, use_among, word_by};
 ghost use Rattle.rd_code.specs.Words.{word_from};
 
 use crate::firsts::put_first;
-use crate::known::{builtin_named, class_named};
+use crate::known::{built_in, class_named};
 use crate::mention::{Mention, mentions_of};
 use crate::named::{Helper, NamedUse, UseKind};
 use crate::renaming::{Renaming, renamed_block};
@@ -50,11 +51,11 @@ fn helper_at(places: &IndexMap<Text, usize>, name: &Text) -> Callee
     }
 }
 
-fn builtin_of(name: &str) -> Callee
-    ensures { result ≡ spec.builtin_of (known.builtin_named name.now) }
+fn built_in_or_unknown(name: &str) -> Callee
+    ensures { result ≡ callees.known (known.built_in name.now) }
 {
-    match builtin_named(name) {
-        Some(builtin) => Callee::Builtin(builtin),
+    match built_in(name) {
+        Some(callee) => callee,
         None => Callee::Unknown,
     }
 }
@@ -69,7 +70,7 @@ fn callee_of(
     match named.kind {
         UseKind::Task => Ok(Callee::Task(named.task.copy(alloc)?)),
         UseKind::Helper => Ok(helper_at(places, &named.name)),
-        UseKind::Builtin => Ok(builtin_of(named.name.as_str())),
+        UseKind::Builtin => Ok(built_in_or_unknown(named.name.as_str())),
         UseKind::ErrorClass => Ok(Callee::Unknown),
     }
 }

@@ -1,12 +1,11 @@
 -- Calls of helpers, by how many more may be open.
-use Rattle.std.proofs.Common.{◌≡◌, ℕ, zero, suc, ◌-◌, ◌<◌, List, [], ◌∷◌, map, Option, None, Some, Result, Ok, Err, refl, sym, ap, ◌∙◌, arith, slice_get}
+use Rattle.std.proofs.Common.{◌≡◌, ℕ, zero, suc, ◌-◌, ◌<◌, List, [], ◌∷◌, map, None, Some, Result, Ok, Err, refl, sym, ap, ◌∙◌, arith, slice_get}
 use Rattle.std.specs.Option.{option_map}
 use Rattle.rd_value.specs.declared.value.ErrorValue.{ErrorValue}
 use Rattle.rd_value.specs.declared.value.FileValue.{FileValue}
 use Rattle.rd_value.specs.declared.expr.Lazy.{Lazy}
 use Rattle.rd_routine.specs.declared.routine.Routine.{Routine}
 use Rattle.rd_interpreter.specs.Builtins.{then_}
-use Rattle.rd_interpreter.specs.Body as body
 use Rattle.rd_interpreter.specs.Body.{too_many_calls, calling, opened, bound, run}
 use Rattle.rd_interpreter.specs.declared.halt.Halt.{Halt}
 use Rattle.rd_interpreter.specs.declared.halt.Halt.TheVariants.{Raised, OutOfMemory}

@@ -1,10 +1,9 @@
 -- The keys of a display's pairs, in the order in which they came first.
-use Rattle.std.proofs.Common.{◌≡◌, ◌⊎◌, ◌<ℤ◌, inl, inr, ℕ, ℤ, zero, suc, Bool, true, false, cond, subst, refl, sym, ap, ◌∙◌, List, [], ◌∷◌, Option, None, Some, Result, Ok, Err}
+use Rattle.std.proofs.Common.{◌≡◌, ◌<ℤ◌, inl, inr, ℕ, ℤ, Bool, true, false, subst, refl, sym, ap, ◌∙◌, List, [], ◌∷◌, Result, Ok, Err}
 use Rattle.std.specs.Prelude.{if◌then◌else◌}
 use Rattle.std.specs.Bool.{Decides}
 use Rattle.std.specs.Str.{bytes_eq}
-use Rattle.std.specs.Cmp.Lexicographic.{slice_cmp}
-use Rattle.std.specs.Ordering.{nat_cmp, int_cmp, is_eq, is_some_and, MatchOrdering}
+use Rattle.std.specs.Ordering.{int_cmp, is_eq, is_some_and, MatchOrdering}
 use Rattle.std.specs.declared.cmp.Ordering.{Ordering}
 use Rattle.std.specs.declared.cmp.Ordering.TheVariants.{Less, Equal, Greater}
 use Rattle.std.specs.Cmp.{int_cmp_is, int_ranks}
@@ -19,9 +18,8 @@ use Rattle.rd_value.specs.declared.value.Datum.TheVariants as value
 use Rattle.rd_value.specs.declared.value.Datum.TheOpen.{Datum-F}
 use Rattle.rd_value.specs.declared.value.Datum.TheFolds.{fold-roll-Datum}
 use Rattle.rd_value.specs.declared.expr.Lazy.{Lazy}
-use Rattle.rd_value.specs.Compare.{Test, number_at, number_order, finds, compared, compared_at, equal}
+use Rattle.rd_value.specs.Compare.{Test, number_at, number_order, compared, compared_at, equal}
 use Rattle.rd_value.specs.Make.{value_of}
-use Rattle.rd_interpreter.specs.Builtins.{then_}
 use Rattle.rd_interpreter.specs.Body.{key_held, with_pair, with_pairs}
 use Rattle.rd_interpreter.specs.Display.{IsKeyOf}
 use Rattle.rd_interpreter.specs.Running.{own}

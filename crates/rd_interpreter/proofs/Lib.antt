@@ -1,6 +1,7 @@
 pub mod Locals
 pub mod Calls
 pub mod Operands
+pub mod Layers
 pub mod Nodes
 pub mod Sources
 pub mod Displays

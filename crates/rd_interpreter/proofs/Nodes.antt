@@ -1,6 +1,6 @@
 -- What a node or a statement means whose parts are pairs.
-use Rattle.std.proofs.Common.{◌≡◌, ℕ, true, List, [], ◌∷◌, map, Some, Option, Ok, refl, sym, ap, ◌∙◌, subst}
-use Rattle.std.specs.Prelude.{nat_le, if◌then◌else◌}
+use Rattle.std.proofs.Common.{◌≡◌, ◌⊎◌, inl, inr, ℕ, true, List, map, Some, Option, Ok, sym, ap, ◌∙◌}
+use Rattle.std.specs.Prelude.{nat_le}
 use Rattle.rd_value.specs.declared.value.FileValue.{FileValue}
 use Rattle.rd_value.specs.declared.expr.Lazy.{Lazy}
 use Rattle.rd_tree.specs.declared.tree.Operator.{Operator}
@@ -8,18 +8,21 @@ use Rattle.rd_tree.specs.declared.tree.Node.{Node}
 use Rattle.rd_tree.specs.declared.tree.Node.TheViews as made
 use Rattle.rd_tree.specs.declared.tree.Node.TheVariants as variant
 use Rattle.rd_tree.specs.declared.tree.Node.TheOpen.{Node-F}
-use Rattle.rd_tree.specs.declared.tree.Node.TheFolds.{fold-roll-Node}
 use Rattle.rd_tree.specs.declared.tree.Statement.{Statement}
 use Rattle.rd_tree.specs.declared.tree.Statement.TheViews as made_statement
 use Rattle.rd_tree.specs.declared.tree.Statement.TheVariants as variant_statement
 use Rattle.rd_tree.specs.declared.tree.Statement.TheOpen.{Statement-F}
 use Rattle.rd_tree.specs.declared.tree.Statement.TheFolds.{fold-roll-Statement}
+use Rattle.rd_routine.specs.declared.special.Form.{Form as Read}
+use Rattle.rd_routine.specs.declared.special.Form.TheVariants as read
+use Rattle.rd_routine.specs.Forms.{Form, Plain, Wrong, held, name_alone, form_of, form_with}
 use Rattle.rd_interpreter.specs.declared.scope.Scope.{Scope}
-use Rattle.rd_interpreter.specs.State.{State, Ran, Part, took, spend, and_then, answered, in_order, each}
+use Rattle.rd_interpreter.specs.State.{State, Part, took, spend, and_then, answered, each}
 use Rattle.rd_interpreter.specs.Held.{iterated}
 use Rattle.rd_interpreter.specs.Body as body
-use Rattle.rd_interpreter.specs.Body.{node, node_at, statement, statement_at, operators, chain, call, shown_pairs, comprehended, branches}
+use Rattle.rd_interpreter.specs.Body.{kind, call, form, formed, statement, statement_at, operators, chain, shown_pairs, comprehended, branches}
 use Rattle.rd_interpreter.specs.Running.{own, put, meant, done, all_done, branch_in, calls_in, function_in}
+use Rattle.rd_interpreter.proofs.Layers.{other_layer, node_dict, node_comp, node_call}
 use Rattle.rd_interpreter.proofs.Operands.{operators_map}
 
 abbrev Meaning : Type 0
@@ -42,28 +45,43 @@ module _ (k : Scope) where
   abbrev keywords_of : List (ℕ × Node ℕ) → List (ℕ × Meaning)
   keywords_of keywords = map (λ w. (w.0, meant k w.1)) keywords
 
+  abbrev called_part : ℕ → List (Node ℕ) → List (ℕ × Node ℕ) → Meaning
+  called_part name positional keywords =
+      formed own (calls_in k) (function_in k) (form own (calls_in k) (function_in k) name positional keywords) name (map (meant k) positional) (keywords_of keywords)
+
   abbrev blocks_of : List (Node ℕ × List (Statement ℕ)) → List (Node ℕ × List Doing)
   blocks_of bs = map (λ b. (b.0, map (done k) b.1)) bs
 
+  -- ---- the form of a call
+
+  abbrev read_form : ℕ → List (Node ℕ) → List (ℕ × Node ℕ) → Form ℕ (Node ℕ)
+  read_form name positional keywords = form_of name_alone (kind (function_in k) name) positional keywords
+
+  pub formed_by : (name : ℕ) (positional : List (Node ℕ)) (keywords : List (ℕ × Node ℕ)) (c : Form ℕ (Node ℕ)) (s : State ℕ FileValue) → read_form name positional keywords ≡ c
+      → called_part name positional keywords s ≡ formed own (calls_in k) (function_in k) (form_with (λ n. n) (meant k) c) name (map (meant k) positional) (keywords_of keywords) s
+  formed_by name positional keywords c s e = ap (λ c. formed own (calls_in k) (function_in k) (form_with (λ n. n) (meant k) c) name (map (meant k) positional) (keywords_of keywords) s) e
+
+  pub formed_plain : (name : ℕ) (positional : List (Node ℕ)) (keywords : List (ℕ × Node ℕ)) (c : Read ℕ) (s : State ℕ FileValue) → read_form name positional keywords ≡ held c → (c ≡ read.Plain) ⊎ (c ≡ read.Wrong)
+      → called_part name positional keywords s ≡ call own (calls_in k) (function_in k) name (map (meant k) positional) (keywords_of keywords) s
+  formed_plain name positional keywords c s e (inl w) = formed_by name positional keywords Plain s (e ∙ ap held w)
+  formed_plain name positional keywords c s e (inr w) = formed_by name positional keywords Wrong s (e ∙ ap held w)
+
   module _ (x : Node ℕ) (s : State ℕ FileValue) where
     pub at_Chain : (first : Node ℕ) (rest : List (Operator × Node ℕ)) → x ≡ variant.Chain first rest → meant k x s ≡ spend (operators rest) s (chain own (meant k first) (links_of rest))
-    unfolding node made.roll-Node denote.Hole.Carrier.roll
+    unfolding made.roll-Node denote.Hole.Carrier.roll
     at_Chain first rest e =
-        ap (λ y. meant k y s) e ∙ ap (λ part. part s) (fold-roll-Node ℕ Meaning (node_at own (calls_in k) (function_in k)) (Node-F.Chain first rest))
+        ap (λ y. meant k y s) e ∙ ap (λ part. part s) (other_layer own (calls_in k) (function_in k) (Node-F.Chain first rest) tt)
         ∙ ap (λ n. spend n s (chain own (meant k first) (links_of rest))) (operators_map (λ l. (l.0, meant k l.1)) rest)
 
     pub at_Dict : (pairs : List (Node ℕ × Node ℕ)) → x ≡ variant.Dict pairs → meant k x s ≡ spend 1 s (shown_pairs own (pairs_of pairs))
-    unfolding node made.roll-Node denote.Hole.Carrier.roll
-    at_Dict pairs e = ap (λ y. meant k y s) e ∙ ap (λ part. part s) (fold-roll-Node ℕ Meaning (node_at own (calls_in k) (function_in k)) (Node-F.Dict pairs))
+    at_Dict pairs e = ap (λ y. meant k y s) e ∙ node_dict own (calls_in k) (function_in k) pairs s
 
-    pub at_Call : (name : ℕ) (positional : List (Node ℕ)) (keywords : List (ℕ × Node ℕ)) → x ≡ variant.Call name positional keywords → meant k x s ≡ spend 1 s (call own (calls_in k) (function_in k) name (map (meant k) positional) (keywords_of keywords))
-    unfolding node made.roll-Node denote.Hole.Carrier.roll
-    at_Call name positional keywords e = ap (λ y. meant k y s) e ∙ ap (λ part. part s) (fold-roll-Node ℕ Meaning (node_at own (calls_in k) (function_in k)) (Node-F.Call name positional keywords))
+    pub at_Call : (name : ℕ) (positional : List (Node ℕ)) (keywords : List (ℕ × Node ℕ)) → x ≡ variant.Call name positional keywords → meant k x s ≡ spend 1 s (called_part name positional keywords)
+    at_Call name positional keywords e = ap (λ y. meant k y s) e ∙ node_call own (calls_in k) (function_in k) name positional keywords s
 
     pub at_Comp : (part : Node ℕ) (name : ℕ) (iterable : Node ℕ) (conditions : List (Node ℕ)) → x ≡ variant.Comp part name iterable conditions
         → meant k x s ≡ spend 1 s (comprehended own (calls_in k) (function_in k) (meant k part) name (meant k iterable) (map (meant k) conditions))
-    unfolding node made.roll-Node denote.Hole.Carrier.roll
-    at_Comp part name iterable conditions e = ap (λ y. meant k y s) e ∙ ap (λ part. part s) (fold-roll-Node ℕ Meaning (node_at own (calls_in k) (function_in k)) (Node-F.Comp part name iterable conditions))
+    at_Comp part name iterable conditions e = ap (λ y. meant k y s) e ∙ node_comp own (calls_in k) (function_in k) part name iterable conditions s
 
   module _ (x : Statement ℕ) (s : State ℕ FileValue) where
     pub at_If : (bs : List (Node ℕ × List (Statement ℕ))) (other : List (Statement ℕ)) → x ≡ variant_statement.If bs other → done k x s ≡ spend 1 s (branches (map (branch_in k) (blocks_of bs)) (all_done k other))
@@ -81,9 +99,8 @@ module _ (k : Scope) where
     pub on_Dict : (pairs : List (Node ℕ × Node ℕ)) → x ≡ variant.Dict pairs → meant k x s ≡ shown_pairs own (pairs_of pairs) t
     on_Dict pairs e = at_Dict x s pairs e ∙ spent 1 s t (shown_pairs own (pairs_of pairs)) enough taken
 
-    pub on_Call : (name : ℕ) (positional : List (Node ℕ)) (keywords : List (ℕ × Node ℕ)) → x ≡ variant.Call name positional keywords → meant k x s ≡ call own (calls_in k) (function_in k) name (map (meant k) positional) (keywords_of keywords) t
-    on_Call name positional keywords e =
-        at_Call x s name positional keywords e ∙ spent 1 s t (call own (calls_in k) (function_in k) name (map (meant k) positional) (keywords_of keywords)) enough taken
+    pub on_Call : (name : ℕ) (positional : List (Node ℕ)) (keywords : List (ℕ × Node ℕ)) → x ≡ variant.Call name positional keywords → meant k x s ≡ called_part name positional keywords t
+    on_Call name positional keywords e = at_Call x s name positional keywords e ∙ spent 1 s t (called_part name positional keywords) enough taken
 
     pub on_Comp : (part : Node ℕ) (name : ℕ) (iterable : Node ℕ) (conditions : List (Node ℕ)) → x ≡ variant.Comp part name iterable conditions
         → meant k x s ≡ comprehended own (calls_in k) (function_in k) (meant k part) name (meant k iterable) (map (meant k) conditions) t

@@ -1,5 +1,5 @@
 -- A text that stands in another.
-use Rattle.std.proofs.Common.{◌≡◌, ℕ, Bool, true, false, ◌||◌, List, [], ◌∷◌, ◌++◌, append_assoc, refl, sym, ap, ◌∙◌, subst, None, MatchBool, true≢false, ◌↔◌}
+use Rattle.std.proofs.Common.{◌≡◌, ℕ, Bool, true, false, ◌||◌, List, [], ◌∷◌, ◌++◌, refl, sym, ap, ◌∙◌, subst, None, MatchBool, true≢false, ◌↔◌}
 use Rattle.std.specs.Str.Iter.{HasSubslice}
 use Rattle.std.specs.Str.Pattern.{HasMatch, FindsText}
 use Rattle.std.proofs.lemmas.Str.Pattern.{contains_text}

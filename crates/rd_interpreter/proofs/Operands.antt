@@ -1,7 +1,7 @@
 -- Operands and turns, as the functions take them.
 use Rattle.std.proofs.Common.{◌≡◌, ℕ, zero, suc, ◌-◌, ◌<◌, Bool, true, List, [], ◌∷◌, map, Option, None, Some, Err, refl, sym, ap, ◌∙◌, arith, length}
 use Rattle.std.specs.Prelude.{if◌then◌else◌, Ok}
-use Rattle.rd_interpreter.specs.State.{State, Ran, Part, and_then, goes_on, turns, steps_limit}
+use Rattle.rd_interpreter.specs.State.{State, Ran, Part, and_then, goes_on, turns}
 use Rattle.rd_value.specs.declared.value.FileValue.{FileValue}
 use Rattle.rd_interpreter.specs.declared.halt.Halt.{Halt}
 use Rattle.rd_interpreter.specs.declared.halt.Halt.TheVariants.{Raised, OutOfMemory}

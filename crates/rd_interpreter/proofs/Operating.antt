@@ -1,5 +1,5 @@
 -- Operators on lists with parts that aren't settled.
-use Rattle.std.proofs.Common.{◌≡◌, ℕ, ℤ, ◌<◌, length, true, false, List, [], ◌++◌, Option, Some, None, Err, is_some, refl, sym, ap, ◌∙◌}
+use Rattle.std.proofs.Common.{◌≡◌, ℕ, ℤ, ◌<◌, length, true, false, List, ◌++◌, Option, Some, None, Err, is_some, refl, sym, ap, ◌∙◌}
 use Rattle.rd_value.specs.declared.value.FileValue.{FileValue}
 use Rattle.rd_value.specs.declared.expr.Lazy.{Lazy}
 use Rattle.rd_value.specs.Expand.{listed}

@@ -1,5 +1,5 @@
 -- How many bytes lists have at least.
-use Rattle.std.proofs.Common.{◌≡◌, ℕ, zero, suc, ◌+◌, ◌*◌, ◌<◌, ◌≤◌, Bool, true, false, ◌&&◌, List, [], ◌∷◌, ◌++◌, map, length, length-append, Option, Some, None, refl, sym, ap, ◌∙◌, subst, arith, rules}
+use Rattle.std.proofs.Common.{◌≡◌, ℕ, suc, ◌<◌, ◌≤◌, Bool, true, false, ◌&&◌, List, [], ◌∷◌, map, length, length-append, Option, Some, None, refl, sym, ap, ◌∙◌, arith}
 use Rattle.std.specs.Prelude.{nat_le}
 use borrow.Author.Tests.{lt-leb}
 use Rattle.rd_value.specs.declared.value.FileValue.{FileValue}
@@ -16,11 +16,11 @@ use Rattle.rd_value.specs.declared.expr.Lazy.TheFolds.{fold-roll-Lazy}
 use Rattle.rd_value.specs.Canon.{canon, canon_at, canon_expr, canon_expr_at, joined}
 use Rattle.rd_value.specs.Depth.{depth, depth_expr}
 use Rattle.rd_value.specs.Expand.{listed}
-use Rattle.rd_value.specs.Limits.{size, size_expr, max_size, max_depth, is_within, is_within_expr}
+use Rattle.rd_value.specs.Limits.{size, size_expr, max_size, max_depth}
 use Rattle.rd_value.specs.Make.{with_first, value_of, values_of, list_of}
 use Rattle.rd_value.proofs.ExprLayers.{size_call, size_input, size_op, size_list_of, size_dict_of, size_cond, size_map, size_catch}
 use Rattle.rd_value.proofs.Ind.{datum_ind, lazy_ind}
-use Rattle.rd_interpreter.specs.Making.{is_kept, is_kept_by}
+use Rattle.rd_interpreter.specs.Making.{is_kept}
 
 at_least_one : (n m : ℕ) → n ≡ m → 1 ≤ m → 1 ≤ n
 at_least_one n m e h = omega (arith, e, h)

@@ -1,5 +1,5 @@
 -- A stable sort and insertion give the same list.
-use Rattle.std.proofs.Common.{◌≡◌, ℕ, ℤ, zero, suc, ◌+◌, ◌<◌, ◌≤◌, Bool, true, false, cond, not, ◌&&◌, refl, sym, ap, ◌∙◌, List, [], ◌∷◌, length, get_or, arith, filter, Option, None, Some, Ok}
+use Rattle.std.proofs.Common.{◌≡◌, ℕ, ℤ, suc, ◌<◌, ◌≤◌, Bool, true, false, cond, not, ◌&&◌, refl, sym, ap, ◌∙◌, List, [], ◌∷◌, length, get_or, arith, filter, Option, None, Some, Ok}
 use Rattle.std.specs.Cmp.{IsStrictWeakOrder}
 use Rattle.std.specs.List.Sorted.{IsSortedBy, IsStableBy, ties}
 use Rattle.std.proofs.lemmas.List.Sorted.{sorted_far}
@@ -13,7 +13,7 @@ use Rattle.rd_value.specs.declared.value.Datum.TheVariants as value
 use Rattle.rd_value.specs.declared.value.Datum.TheOpen.{Datum-F}
 use Rattle.rd_value.specs.declared.value.Datum.TheFolds.{fold_out-Datum, map-Datum}
 use Rattle.rd_value.specs.Compare.{Test, compared, compared_at, number_at, number_of_bool}
-use Rattle.rd_interpreter.specs.Builtins.{inserted, in_order, is_number, is_text, is_text_at, less, number_less, number_or_zero, or_zero, sorted, text_at, text_less, text_or_empty}
+use Rattle.rd_interpreter.specs.Builtins.{inserted, in_order, is_number, is_text, is_text_at, less, number_less, number_or_zero, or_zero, sorted, text_at, text_less}
 use Rattle.rd_interpreter.specs.Operations.{number_of}
 use Rattle.rd_interpreter.specs.Running.{own}
 

@@ -13,7 +13,6 @@ use Rattle.rd_value.specs.declared.value.Datum.{Datum}
 use Rattle.rd_value.specs.declared.value.Datum.TheVariants as value
 use Rattle.rd_value.specs.declared.expr.Lazy.{Lazy}
 use Rattle.rd_value.specs.declared.expr.Lazy.TheVariants as lazy
-use Rattle.rd_value.specs.Operators.{character}
 use Rattle.rd_interpreter.specs.declared.turns.source.Source.{Source}
 use Rattle.rd_interpreter.specs.declared.turns.source.Source.TheVariants as source
 use Rattle.rd_interpreter.specs.Source.{left_of, text_of, ItemAt, CharacterAt, next_at}

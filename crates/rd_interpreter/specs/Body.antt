@@ -1,5 +1,5 @@
 -- The meaning of a body: big steps over its tree, with the steps that are left.
-use Rattle.std.specs.Prelude.{ℕ, zero, suc, ◌-◌, Bool, true, false, not, List, [], ◌∷◌, ◌++◌, map, length, codes, if◌then◌else◌, Option, None, Some, Result, Ok, Err}
+use Rattle.std.specs.Prelude.{ℕ, zero, suc, Bool, true, false, not, List, [], ◌∷◌, map, length, codes, if◌then◌else◌, Option, None, Some, Result, Ok, Err}
 use Rattle.std.specs.List.{slice_get}
 use Rattle.rd_value.specs.declared.class.Class.{Class}
 use Rattle.rd_value.specs.declared.class.Class.TheVariants.{NameError, RecursionError}
@@ -23,17 +23,20 @@ use Rattle.rd_tree.specs.declared.tree.Comparison.{Comparison}
 use Rattle.rd_tree.specs.declared.tree.Operator.{Operator}
 use Rattle.rd_tree.specs.declared.tree.Node.{Node}
 use Rattle.rd_tree.specs.declared.tree.Node.TheOpen.{Node-F}
-use Rattle.rd_tree.specs.declared.tree.Node.TheFolds.{fold-Node}
 use Rattle.rd_tree.specs.declared.tree.Statement.{Statement}
 use Rattle.rd_tree.specs.declared.tree.Statement.TheOpen.{Statement-F}
 use Rattle.rd_tree.specs.declared.tree.Statement.TheFolds.{fold-Statement}
 use Rattle.rd_routine.specs.declared.routine.Callee.{Callee}
 use Rattle.rd_routine.specs.declared.routine.Callee.TheVariants as callee
-use Rattle.rd_interpreter.specs.State.{State, Ran, Part, and_then, spend, answered, all, goes_on, in_order, each, collected, loop}
+use Rattle.rd_routine.specs.declared.special.Special.{Special}
+use Rattle.rd_routine.specs.declared.special.Special.TheVariants as special
+use Rattle.rd_routine.specs.Callees.{special_of}
+use Rattle.rd_routine.specs.Forms.{Form, Plain, Wrong, Mapping, Catching, name_alone, form_of, form_with, folded}
+use Rattle.rd_interpreter.specs.State.{State, Ran, Part, and_then, spend, answered, all, in_order, each, collected, loop}
 use Rattle.rd_interpreter.specs.Held.{not_settled, settled, truth_of, iterated}
 use Rattle.rd_interpreter.specs.Making.{measured, made, truth_value}
 use Rattle.rd_interpreter.specs.Operations.{kind_of, operate, negative, compare, turned}
-use Rattle.rd_interpreter.specs.Builtins.{then_, on_arguments}
+use Rattle.rd_interpreter.specs.Builtins.{bad_arguments, then_, on_arguments}
 use Rattle.rd_interpreter.specs.Methods.{text_of, no_method, on_receiver}
 
 -- A function as a body knows it. `N` is what a name is.
@@ -235,6 +238,10 @@ module _ {N F : Type 0} where
     with_names names (p ∷ ps) [] = names
     with_names names (p ∷ ps) (v ∷ vs) = with_names (with_name names p.0 (Some v)) ps vs
 
+    -- what a call of a name makes, if that is special
+    abbrev pub kind : N → Option Special
+    kind name = special_of (f.callee name)
+
     -- raises an error
     abbrev pub raise : N → Option Class → Lazy F → Part N F (Option (Lazy F))
     raise name None e s = Err (raised NameError (f.spelling name))
@@ -243,15 +250,43 @@ module _ {N F : Type 0} where
 module _ {N F : Type 0} (file : F → FileValue) (calls : Calls F) (f : Routine N F) where
   -- ---- expressions
 
+  -- a call of this kind whose arguments are all evaluated
+  abbrev pub made_special : Special → List (Lazy F) → Part N F (Lazy F)
+  made_special special.Cond (test ∷ when_true ∷ when_false ∷ []) s = measured file (lazy.Cond test when_true when_false) s
+  made_special _ es s = Err bad_arguments
+
   abbrev pub called : N → Callee → List (Lazy F) → List (List ℕ × Lazy F) → Part N F (Lazy F)
   called name (callee.Task task) es ks s = measured file (lazy.Call task es ks) s
   called name (callee.Helper place) es ks s = after_call (calls place es ks s.left) s
   called name (callee.Builtin builtin) es ks s = on_arguments file builtin es s
+  called name (callee.Special kind) es ks s = made_special kind es s
   called name callee.Unknown es ks s = Err (raised NameError (f.spelling name))
 
   -- a call, whose arguments come first
   abbrev pub call : N → List (Part N F (Lazy F)) → List (N × Part N F (Lazy F)) → Part N F (Lazy F)
   call name positional keywords s = and_then (all positional s) (λ es t. and_then (all (map (keyword f) keywords) t) (λ ks u. called name (f.callee name) es ks u))
+
+  -- the calls of a task with each item of a list
+  abbrev pub mapped : N → Callee → Lazy F → Part N F (Lazy F)
+  mapped name (callee.Task task) e s = measured file (lazy.Map task e) s
+  mapped name _ e s = Err (raised NameError (f.spelling name))
+
+  -- what is tried, with the task that recovers from an error of a class
+  abbrev pub caught : N → Option Class → N → Callee → Lazy F → Part N F (Lazy F)
+  caught class (Some c) recover (callee.Task task) e s = measured file (lazy.Catch e c task) s
+  caught class (Some c) recover _ e s = Err (raised NameError (f.spelling recover))
+  caught class None recover _ e s = Err (raised NameError (f.spelling class))
+
+  -- A call by its form. A task and a class among its arguments aren't evaluated.
+  abbrev pub formed : Form N (Part N F (Lazy F)) → N → List (Part N F (Lazy F)) → List (N × Part N F (Lazy F)) → Part N F (Lazy F)
+  formed Plain name positional keywords s = call name positional keywords s
+  formed Wrong name positional keywords s = call name positional keywords s
+  formed (Mapping task list) name positional keywords s = and_then (list s) (λ e t. mapped task (f.callee task) e t)
+  formed (Catching tried class recover) name positional keywords s = and_then (tried s) (λ e t. caught class (f.class_of class) recover (f.callee recover) e t)
+
+  -- a call by its form, with its own step
+  abbrev pub call_at : Form N (Part N F (Lazy F)) → N → List (Part N F (Lazy F)) → List (N × Part N F (Lazy F)) → Part N F (Lazy F)
+  call_at form name positional keywords s = spend 1 s (formed form name positional keywords)
 
   -- A comprehension over some items. Its name is its own.
   abbrev pub comprehension : Part N F (Lazy F) → N → List (Part N F (Lazy F)) → List (Lazy F) → Part N F (Lazy F)
@@ -282,7 +317,11 @@ module _ {N F : Type 0} (file : F → FileValue) (calls : Calls F) (f : Routine 
   node_at (Node-F.Comp part name iterable conditions) s = spend 1 s (comprehended part name iterable conditions)
 
   unfoldable pub node : Node N → Part N F (Lazy F)
-  node = fold-Node N (Part N F (Lazy F)) node_at
+  node = folded (kind f) call_at node_at
+
+  -- the form of a call, with what its arguments mean
+  abbrev pub form : N → List (Node N) → List (N × Node N) → Form N (Part N F (Lazy F))
+  form name positional keywords = form_with (λ n. n) node (form_of name_alone (kind f name) positional keywords)
 
   -- ---- statements
 

@@ -21,7 +21,7 @@ use Rattle.rd_value.specs.Repr.{repr}
 use Rattle.rd_value.specs.Truth.{is_zero}
 use Rattle.rd_routine.specs.declared.builtin.Builtin.{Builtin}
 use Rattle.rd_routine.specs.declared.builtin.Builtin.TheVariants as builtin
-use Rattle.rd_interpreter.specs.State.{Part, answered}
+use Rattle.rd_interpreter.specs.State.{Part}
 use Rattle.rd_interpreter.specs.Held.{not_settled, iterated_value}
 use Rattle.rd_interpreter.specs.Making.{made, taken}
 use Rattle.rd_interpreter.specs.Operations.{number_of}

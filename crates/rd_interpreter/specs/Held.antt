@@ -1,5 +1,5 @@
 -- What a body holds: values, and what isn't settled yet.
-use Rattle.std.specs.Prelude.{ℕ, Bool, true, false, not, List, [], ◌∷◌, map, codes, Option, None, Some, Result, Ok, Err}
+use Rattle.std.specs.Prelude.{Bool, not, List, map, codes, Option, None, Some, Result, Ok, Err}
 use Rattle.std.specs.Str.{chars}
 use Rattle.rd_value.specs.declared.class.Class.TheVariants.{TypeError}
 use Rattle.rd_value.specs.declared.value.ErrorValue.{ErrorValue}

@@ -1,5 +1,5 @@
 -- What a body makes: its limits, and its steps.
-use Rattle.std.specs.Prelude.{ℕ, ◌/◌, Bool, List, length, if◌then◌else◌, Option, None, Some, Result, Ok, Err}
+use Rattle.std.specs.Prelude.{ℕ, ◌/◌, Bool, length, if◌then◌else◌, Option, None, Some, Result, Ok, Err}
 use Rattle.rd_value.specs.declared.value.ErrorValue.{ErrorValue}
 use Rattle.rd_value.specs.declared.value.FileValue.{FileValue}
 use Rattle.rd_value.specs.declared.value.Datum.{Datum, out-Datum}
@@ -11,7 +11,7 @@ use Rattle.rd_value.specs.declared.expr.Lazy.TheOpen.{Lazy-F}
 use Rattle.rd_value.specs.Limits.{is_within, is_within_expr}
 use Rattle.rd_value.specs.Make.{value_of}
 use Rattle.rd_value.specs.Operators.{value_limit}
-use Rattle.rd_interpreter.specs.State.{State, Ran, Part, spend}
+use Rattle.rd_interpreter.specs.State.{Part, spend}
 
 -- the steps of making a value: one for 64 whole bytes of a text, one for an item or a pair
 abbrev pub making_at : {F X : Type 0} → Datum-F F X → ℕ

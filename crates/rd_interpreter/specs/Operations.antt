@@ -1,5 +1,5 @@
 -- The operators of a body, also on what isn't settled.
-use Rattle.std.specs.Prelude.{ℕ, ℤ, Bool, true, false, ◌||◌, not, List, [], ◌∷◌, ◌++◌, map, codes, if◌then◌else◌, Option, None, Some, Result, Ok, Err}
+use Rattle.std.specs.Prelude.{ℕ, ℤ, Bool, not, List, [], ◌∷◌, ◌++◌, if◌then◌else◌, Option, None, Some, Result, Ok, Err}
 use Rattle.std.specs.List.{list_any, repeat}
 use Rattle.rd_value.specs.declared.value.ErrorValue.{ErrorValue}
 use Rattle.rd_value.specs.declared.value.FileValue.{FileValue}
@@ -22,8 +22,8 @@ use Rattle.rd_tree.specs.declared.tree.Operator.{Operator}
 use Rattle.rd_tree.specs.declared.tree.Operator.TheVariants as operator
 use Rattle.rd_tree.specs.declared.tree.Comparison.{Comparison}
 use Rattle.rd_tree.specs.declared.tree.Comparison.TheVariants as comparison
-use Rattle.rd_interpreter.specs.State.{State, Ran, Part, answered}
-use Rattle.rd_interpreter.specs.Held.{not_settled, items_of, pairs_of, settled}
+use Rattle.rd_interpreter.specs.State.{Part, answered}
+use Rattle.rd_interpreter.specs.Held.{not_settled, items_of}
 use Rattle.rd_interpreter.specs.Making.{made, measured, worked, taken, truth_value}
 use Rattle.rd_interpreter.specs.Texts.{occurs}
 

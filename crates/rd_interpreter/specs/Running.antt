@@ -116,11 +116,6 @@ all_done k ss = in_order (map (done k) ss)
 abbrev pub put : ℕ → Option (Lazy FileValue) → State ℕ FileValue → State ℕ FileValue
 put slot value s = record s { names = with_local s.names slot value }
 
--- what a name that is called stands for, where it is known
-abbrev pub known : Option Callee → Callee
-known None = Unknown
-known (Some c) = c
-
 -- a branch: its test and its block
 abbrev pub branch_in : Scope → Node ℕ × List (Part ℕ FileValue (Option (Lazy FileValue))) → Part ℕ FileValue (Lazy FileValue) × Part ℕ FileValue (Option (Lazy FileValue))
 branch_in k = body.branch own (calls_in k) (function_in k)

@@ -40,6 +40,15 @@ impl Scope<'_> {
         }
     }
 
+    fn class(&self, slot: Slot) -> Option<Class>
+        ensures { result ≡ (function_in self.now).class_of slot }
+    {
+        match self.routine.words.as_slice().get(slot) {
+            Some(word) => word.class,
+            None => None,
+        }
+    }
+
     /// The error of a name that stands for nothing.
     fn no_name(&self, slot: Slot) -> Halt
         ensures { Raises result (raised NameError ((function_in self.now).spelling slot)) }

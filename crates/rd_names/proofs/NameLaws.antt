@@ -18,9 +18,9 @@ use Rattle.rd_names.specs.declared.refusal.Broken.TheVariants as b
 use Rattle.rd_names.specs.declared.refusal.Refusal.{Refusal}
 use Rattle.rd_names.specs.Spelling.{is_dotted}
 use Rattle.rd_names.specs.Options.{is_accepted, first_space}
-use Rattle.rd_names.specs.Uses.{Role, Value, Called, Class, Use, joined, statement_uses, body_uses, locals}
+use Rattle.rd_names.specs.Uses.{Role, Value, Called, Misused, Class, Task, Use, joined, statement_uses, body_uses, locals}
 use Rattle.rd_names.specs.Names as spec
-use Rattle.rd_names.specs.Names.{offered, later, builtins, error_classes, is_among, with_name, unless, double, doubles, texts, AreDistinct, IsCallable, IsLocal, KeepsRole, KeepsRule, KeepsOptions, KeepsOwn, KeepsNames, is_empty, is_callable, role_refusals, use_refusals, refusals_of, statement_refusals, option_refusals, options_refusals, function_refusals, refusals}
+use Rattle.rd_names.specs.Names.{Known, offered, later, builtins, error_classes, is_among, with_name, unless, double, doubles, texts, AreDistinct, IsCallable, IsLocal, KeepsRole, KeepsRule, KeepsOptions, KeepsOwn, KeepsNames, is_empty, is_callable, role_refusals, use_refusals, refusals_of, statement_refusals, option_refusals, options_refusals, function_refusals, refusals}
 use Rattle.rd_names.proofs.UseLayers.{of_joined}
 use Rattle.rd_names.proofs.OneMore.{among_with}
 
@@ -148,23 +148,31 @@ callable_decides functions x keywords = by_test (is_among builtins x) (among_dec
         back (inl k) = let no : false ≡ true = d.1 (Contains-append_left offered later x (left k)) in absurd cc
         back (inr k) = (among_decides functions x).1 (right k)
 
-role_clear : {local : Type 0} (functions : List (List ℕ)) (t : Bool) → Decides t local → (x : Name) (r : Role) → Clear (role_refusals (is_among functions) t x r) (KeepsRole functions local x.text r)
-role_clear functions t d x Value = clear_unless t (spec.at b.UnknownName x) d
-role_clear functions t d x (Called keywords) =
+-- what names of functions and of tasks tell
+abbrev pub by_names : (functions tasks : List (List ℕ)) → Known
+by_names functions tasks = record { is_function = is_among functions; is_task = is_among tasks }
+
+role_clear : {local : Type 0} (functions tasks : List (List ℕ)) (t : Bool) → Decides t local → (x : Name) (r : Role) → Clear (role_refusals (by_names functions tasks) t x r) (KeepsRole functions tasks local x.text r)
+role_clear functions tasks t d x Value = clear_unless t (spec.at b.UnknownName x) d
+role_clear functions tasks t d x (Called keywords) =
     let known = not t && is_callable (is_among functions) x.text (is_empty keywords) in
     clear_both (unless known (spec.at b.UnknownName x)) (doubles [] keywords) (clear_unless known (spec.at b.UnknownName x) (Decides-and _ _ (Decides-not t d) (callable_decides functions x.text keywords))) (distinct_clear keywords)
-role_clear functions t d x Class = clear_unless _ (spec.at b.UnknownName x) (Decides-and _ _ (Decides-not t d) (among_decides error_classes x.text))
+role_clear functions tasks t d x (Misused keywords) = (λ h. absurd (not_nil (spec.at b.UnknownName x) (doubles [] keywords) h), λ k. absurd k)
+role_clear functions tasks t d x Class = clear_unless _ (spec.at b.UnknownName x) (Decides-and _ _ (Decides-not t d) (among_decides error_classes x.text))
+role_clear functions tasks t d x Task = clear_unless _ (spec.at b.UnknownName x) (Decides-and _ _ (Decides-not t d) (among_decides tasks x.text))
 
-use_clear : (functions names : List (List ℕ)) (u : Use) → Clear (use_refusals (is_among functions) (is_among names) u) (KeepsRule functions names u)
+use_clear : (functions tasks names : List (List ℕ)) (u : Use) → Clear (use_refusals (by_names functions tasks) (is_among names) u) (KeepsRule functions tasks names u)
 unfolding use_refusals
-use_clear functions names u =
-    role_clear functions (is_among u.around u.name.text || is_among names u.name.text) (Decides-or _ _ (among_decides u.around u.name.text) (among_decides names u.name.text)) u.name u.role
+use_clear functions tasks names u =
+    role_clear functions tasks (is_among u.around u.name.text || is_among names u.name.text) (Decides-or _ _ (among_decides u.around u.name.text) (among_decides names u.name.text)) u.name u.role
 
-body_clear : (functions names : List (List ℕ)) (body : List (Statement Name)) → Clear (joined (map (statement_refusals (is_among functions) (is_among names)) body)) (All (KeepsRule functions names) (body_uses body))
+body_clear : (functions tasks names : List (List ℕ)) (body : List (Statement Name))
+    → Clear (joined (map (statement_refusals (by_names functions tasks) (is_among names)) body)) (All (KeepsRule functions tasks names) (body_uses body))
 unfolding refusals_of statement_refusals
-body_clear functions names body =
-    clear_at (refusals_of (is_among functions) (is_among names) (body_uses body)) _ (of_joined (is_among functions) (is_among names) statement_uses body)
-    (clear_all (use_refusals (is_among functions) (is_among names)) (KeepsRule functions names) (use_clear functions names) (body_uses body))
+body_clear functions tasks names body =
+    let known = by_names functions tasks in
+    clear_at (refusals_of known (is_among names) (body_uses body)) _ (of_joined known (is_among names) statement_uses body)
+    (clear_all (use_refusals known (is_among names)) (KeepsRule functions tasks names) (use_clear functions tasks names) (body_uses body))
 
 -- ---- functions and modules
 
@@ -174,10 +182,10 @@ options_clear (Some os) =
     clear_both (doubles [] (spec.option_names os)) (joined (map option_refusals os)) (distinct_clear (spec.option_names os))
     (clear_all option_refusals (λ o. is_accepted o ≡ true) (λ o. clear_unless (is_accepted o) (spec.at b.BadOption o.name) (itself (is_accepted o))) os)
 
-own_clear : (functions : List (List ℕ)) (f : Function) → Clear (function_refusals (is_among functions) f) (KeepsOwn functions f)
-own_clear functions f =
-    clear_like (function_refusals (is_among functions) f) (λ k. record { options = left k; parameters = left (right k); uses = right (right k) }) (λ k. (k.options, (k.parameters, k.uses)))
-    (clear_both _ _ (options_clear f.task) (clear_both _ _ (distinct_clear (spec.parameter_names f.parameters)) (body_clear functions (locals f) f.body)))
+own_clear : (functions tasks : List (List ℕ)) (f : Function) → Clear (function_refusals (by_names functions tasks) f) (KeepsOwn functions tasks f)
+own_clear functions tasks f =
+    clear_like (function_refusals (by_names functions tasks) f) (λ k. record { options = left k; parameters = left (right k); uses = right (right k) }) (λ k. (k.options, (k.parameters, k.uses)))
+    (clear_both _ _ (options_clear f.task) (clear_both _ _ (distinct_clear (spec.parameter_names f.parameters)) (body_clear functions tasks (locals f) f.body)))
 
 one_clear : (ns : List Name) → Clear (spec.second_refusals ns) (length ns ≤ 1)
 one_clear [] = (λ h. omega arith, λ k. refl)
@@ -197,6 +205,7 @@ free_clear fs =
 pub no_refusals : (m : Module) → Clear (refusals m) (KeepsNames m)
 no_refusals m =
     let functions = texts (spec.function_names m.functions) in
+    let tasks = spec.own_tasks m.functions in
     clear_like (refusals m)
     (λ k. record {
       one_namespace = left k;
@@ -207,7 +216,7 @@ no_refusals m =
       each = right (right (right (right (right k))));
     }) (λ k. (k.one_namespace, (k.dotted_namespaces, (k.distinct_functions, (k.free_functions, (k.distinct_tasks, k.each))))))
     (clear_both _ _ (one_clear m.namespaces) (clear_both _ _ (dotted_clear m.namespaces) (clear_both _ _ (distinct_clear (spec.function_names m.functions)) (clear_both _ _ (free_clear m.functions)
-    (clear_both _ _ (distinct_clear (spec.task_names (first_space m.namespaces) m.functions)) (clear_all (function_refusals (is_among functions)) (KeepsOwn functions) (own_clear functions) m.functions))))))
+    (clear_both _ _ (distinct_clear (spec.task_names (first_space m.namespaces) m.functions)) (clear_all (function_refusals (by_names functions tasks)) (KeepsOwn functions tasks) (own_clear functions tasks) m.functions))))))
 
 -- a list that has an element isn't empty
 pub has_some : {X : Type 0} (xs : List X) (x : X) → Contains xs x → xs ≡ [] → ⊥

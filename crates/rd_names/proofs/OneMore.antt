@@ -9,7 +9,7 @@ use Rattle.rd_tree.specs.declared.tree.Name.{Name}
 use Rattle.rd_tree.specs.declared.tree.Node.{Node}
 use Rattle.rd_tree.specs.declared.tree.Node.TheVariants as node
 use Rattle.rd_names.specs.Uses.{joined}
-use Rattle.rd_names.specs.Names.{is_among, with_name, with_names, node_refusals}
+use Rattle.rd_names.specs.Names.{Known, is_among, with_name, with_names, node_refusals}
 use Rattle.rd_names.proofs.UseLayers.{and_also, node_comp}
 
 or_last : (p q : Bool) → (p || (q || false)) ≡ (q || p)
@@ -49,7 +49,7 @@ unfolding and_also
 also_with ks x = fun_ext (among_with ks x)
 
 -- a comprehension, whose name is one local more inside it
-pub node_comp_with : (f : List ℕ → Bool) (ks : List (List ℕ)) (element : Node Name) (x : Name) (iterable : Node Name) (condition : List (Node Name)) → node_refusals f (is_among ks) (node.Comp element x iterable condition)
+pub node_comp_with : (f : Known) (ks : List (List ℕ)) (element : Node Name) (x : Name) (iterable : Node Name) (condition : List (Node Name)) → node_refusals f (is_among ks) (node.Comp element x iterable condition)
     ≡ node_refusals f (is_among ks) iterable ++ (node_refusals f (is_among (with_name ks x.text)) element ++ joined (map (node_refusals f (is_among (with_name ks x.text))) condition))
 node_comp_with f ks element x iterable condition =
     node_comp f (is_among ks) element x iterable condition

@@ -46,6 +46,11 @@ module _ {Y : Type 0} where
   third_behind (Ok x) s m n t a b c whole third second first w = three_parts s m n t a b c whole third second first w
   third_behind (Err x) s m n t a b c whole third second first w = third
 
+  -- three parts and a fourth behind them
+  pub fourth_behind : {A E : Type 0} (r : Result A E) (s m n o t a b c d whole : List Y) → OnOk r (t ≡ o ++ d) → o ≡ n ++ c → n ≡ m ++ b → m ≡ s ++ a → whole ≡ a ++ (b ++ (c ++ d)) → OnOk r (t ≡ s ++ whole)
+  fourth_behind (Ok x) s m n o t a b c d whole fourth third second first w = three_parts s m n t a b (c ++ d) whole (two_parts n o t c d fourth third) second first w
+  fourth_behind (Err x) s m n o t a b c d whole fourth third second first w = fourth
+
   -- one part, told otherwise
   pub alone : {A E : Type 0} (r : Result A E) (s t a whole : List Y) → OnOk r (t ≡ s ++ a) → whole ≡ a → OnOk r (t ≡ s ++ whole)
   alone (Ok x) s t a whole h w = h ∙ ap (λ k. s ++ k) (sym w)

@@ -1,5 +1,6 @@
 pub mod Refusals
 pub mod Spelling
 pub mod Options
+pub mod Special
 pub mod Uses
 pub mod Names

@@ -3,19 +3,25 @@ use Rattle.std.specs.Prelude.{ℕ, Bool, true, false, List, [], ◌∷◌, ◌++
 use Rattle.rd_tree.specs.declared.tree.Name.{Name}
 use Rattle.rd_tree.specs.declared.tree.Node.{Node, out-Node}
 use Rattle.rd_tree.specs.declared.tree.Node.TheOpen.{Node-F}
-use Rattle.rd_tree.specs.declared.tree.Node.TheFolds.{fold-Node}
 use Rattle.rd_tree.specs.declared.tree.Statement.{Statement}
 use Rattle.rd_tree.specs.declared.tree.Statement.TheOpen.{Statement-F}
 use Rattle.rd_tree.specs.declared.tree.Statement.TheFolds.{fold-Statement}
 use Rattle.rd_tree.specs.declared.tree.Function.{Function}
+use Rattle.rd_routine.specs.declared.special.Special.{Special}
+use Rattle.rd_routine.specs.Forms.{Form, Plain, Wrong, Mapping, Catching, folded}
+use Rattle.rd_names.specs.Special.{special_named}
 
 -- as what a name stands
 pub data Role : Type 0 where
   Value : Role
   -- with the names of the call's keywords
   Called : List Name → Role
-  -- behind `raise`
+  -- called in a form that this special call doesn't have, with the same names
+  Misused : List Name → Role
+  -- behind `raise`, and in `catch`
   Class : Role
+  -- in `map_` and `catch`
+  Task : Role
 
 -- a name where it is used, and the names of the comprehensions around it
 pub record Use : Type 0 where
@@ -39,11 +45,18 @@ within x u = record { around = x ∷ u.around; name = u.name; role = u.role }
 abbrev pub keyword_names : {X : Type 0} → List (Name × X) → List Name
 keyword_names ks = map (λ k. k.0) ks
 
+-- The uses in a call, by its form. A task and a class among its arguments are no values.
+abbrev pub call_uses : Form Name (List Use) → Name → List (List Use) → List (Name × List Use) → List Use
+call_uses Plain x positional keywords = used x (Called (keyword_names keywords)) ∷ (joined positional ++ joined (map (λ k. k.1) keywords))
+call_uses Wrong x positional keywords = used x (Misused (keyword_names keywords)) ∷ (joined positional ++ joined (map (λ k. k.1) keywords))
+call_uses (Mapping task list) x positional keywords = used x (Called []) ∷ used task Task ∷ list
+call_uses (Catching tried class recover) x positional keywords = used x (Called []) ∷ (tried ++ used class Class ∷ used recover Task ∷ [])
+
 -- the uses in an expression, from those in its parts
 abbrev pub uses_at : Node-F Name (List Use) → List Use
 uses_at (Node-F.Lit v) = []
 uses_at (Node-F.Name x) = used x Value ∷ []
-uses_at (Node-F.Call x positional keywords) = used x (Called (keyword_names keywords)) ∷ (joined positional ++ joined (map (λ k. k.1) keywords))
+uses_at (Node-F.Call x positional keywords) = call_uses Plain x positional keywords
 uses_at (Node-F.Method receiver name arguments) = receiver ++ joined arguments
 uses_at (Node-F.Index receiver index) = receiver ++ index
 uses_at (Node-F.Path receiver) = receiver
@@ -58,9 +71,13 @@ uses_at (Node-F.List items) = joined items
 uses_at (Node-F.Dict pairs) = joined (map (λ p. p.0 ++ p.1) pairs)
 uses_at (Node-F.Comp element x iterable condition) = iterable ++ map (within x.text) (element ++ joined condition)
 
+-- what a call of the name makes, if that is special
+abbrev pub special_at : Name → Option Special
+special_at x = special_named x.text
+
 -- the uses in an expression
 abbrev pub uses : Node Name → List Use
-uses = fold-Node Name (List Use) uses_at
+uses = folded special_at call_uses uses_at
 
 -- an operation, which begins with a part that stands alone
 abbrev pub is_operation_at : {X : Type 0} → Node-F Name X → Bool

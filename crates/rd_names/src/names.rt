@@ -2,11 +2,12 @@
 
 ghost use Rattle.std.specs.Prelude.{◌≡◌, ◌++◌, [], IfOk, IfErr, IfSome, OnOk, map, drop, option_copied};
 ghost use Rattle.rd_names.specs.Names as spec;
-ghost use Rattle.rd_names.specs.Names.{is_among, KeepsNames};
+ghost use Rattle.rd_names.specs.Names.{told_by, KeepsNames};
 ghost use Rattle.rd_names.specs.Options.{first_space, task_name};
 ghost use Rattle.rd_names.specs.Refusals.{IsFirst, told};
 ghost use Rattle.rd_names.specs.Uses.{joined};
 
+use crate::known::{Known, own_tasks};
 use crate::locals::add_assigned;
 use crate::options::{full_name, is_accepted};
 use crate::refusal::{Broken, Refusal, RegisterError, first};
@@ -65,6 +66,23 @@ fn note_functions(
         note_name(alloc, &mut seen, &function.name, all)?;
     }
     Ok(seen)
+}
+
+/// The names of the functions, of which each but the first of its name is refused.
+fn known_functions(
+    alloc: Global,
+    functions: &[Function],
+    all: &mut Vec<Refusal>,
+) -> Result<Known, OutOfMemory>
+    ensures known { IfOk result (λ known. told_by known ≡ spec.known_of functions.now) }
+    ensures all { OnOk result (all.new.items ≡ all.old.items ++ spec.doubles [] (spec.function_names functions.now)) }
+{
+    let names = note_functions(alloc, functions, all)?;
+    let tasks = own_tasks(alloc, functions)?;
+    Ok(Known {
+        functions: names,
+        tasks,
+    })
 }
 
 fn is_free(name: &str) -> bool
@@ -175,25 +193,25 @@ fn note_parameters(
 
 fn judge_function(
     alloc: Global,
-    functions: &IndexSet<Text>,
+    known: &Known,
     function: &Function,
     all: &mut Vec<Refusal>,
 ) -> Result<(), OutOfMemory>
-    ensures { OnOk result (all.new.items ≡ all.old.items ++ spec.function_refusals (is_among functions.now.keys) function.now) }
+    ensures { OnOk result (all.new.items ≡ all.old.items ++ spec.function_refusals (told_by known.now) function.now) }
 {
     judge_task(alloc, &function.task, all)?;
     let mut locals = note_parameters(alloc, function.parameters.as_slice(), all)?;
     add_assigned(alloc, function.body.as_slice(), &mut locals)?;
-    judge_body(alloc, functions, &mut locals, function.body.as_slice(), all)
+    judge_body(alloc, known, &mut locals, function.body.as_slice(), all)
 }
 
 fn judge_functions(
     alloc: Global,
-    known: &IndexSet<Text>,
+    known: &Known,
     functions: &[Function],
     all: &mut Vec<Refusal>,
 ) -> Result<(), OutOfMemory>
-    ensures { OnOk result (all.new.items ≡ all.old.items ++ joined (map (spec.function_refusals (is_among known.now.keys)) functions.now)) }
+    ensures { OnOk result (all.new.items ≡ all.old.items ++ joined (map (spec.function_refusals (told_by known.now)) functions.now)) }
 {
     for function in functions {
         judge_function(alloc, known, function, all)?;
@@ -228,7 +246,7 @@ fn judge_module(alloc: Global, module: &Module) -> Result<Vec<Refusal>, OutOfMem
     let namespaces = module.namespaces.as_slice();
     let functions = module.functions.as_slice();
     judge_spaces(namespaces, &mut all)?;
-    let known = note_functions(alloc, functions, &mut all)?;
+    let known = known_functions(alloc, functions, &mut all)?;
     judge_taken(functions, &mut all)?;
     note_tasks(alloc, first_namespace(namespaces), functions, &mut all)?;
     judge_functions(alloc, &known, functions, &mut all)?;

@@ -1,14 +1,18 @@
 //! Whether names are used by the rules.
 
 ghost use Rattle.std.specs.Prelude.{◌≡◌, ◌++◌, [], ◌∷◌, true, not, ◌&&◌, OnOk, length, map, nat_eq};
+ghost use Rattle.rd_tree.specs.declared.tree.Node.TheVariants as node;
 ghost use Rattle.rd_names.specs.Names as spec;
-ghost use Rattle.rd_names.specs.Names.{is_among, node_refusals};
+ghost use Rattle.rd_names.specs.Names.{is_among, node_refusals, told_by};
 ghost use Rattle.rd_names.specs.Uses.{is_operation, joined, keyword_names, returned_uses};
 
+use crate::known::Known;
 use crate::refusal::{Broken, Refusal};
 use crate::repeats::note_name;
+use crate::special::special_named;
 use indexmap::IndexSet;
 use rd_base::{Boxed, Copies, Items, OutOfMemory, Text};
+use rd_routine::{Form, form_of};
 use rd_tree::{Name, Node, Operator, Statement};
 use std::alloc::Global;
 
@@ -17,7 +21,18 @@ fn is_offered(name: &str) -> bool
 {
     matches!(
         name,
-        "len" | "str" | "int" | "range" | "sum" | "min" | "max" | "sorted" | "abs"
+        "len"
+            | "str"
+            | "int"
+            | "range"
+            | "sum"
+            | "min"
+            | "max"
+            | "sorted"
+            | "abs"
+            | "cond"
+            | "catch"
+            | "map_"
     )
 }
 
@@ -25,7 +40,7 @@ fn is_offered(name: &str) -> bool
 pub(crate) fn is_builtin(name: &str) -> bool
     ensures { result ≡ is_among spec.builtins name.now }
 {
-    is_offered(name) || matches!(name, "File" | "cond" | "catch" | "map_")
+    is_offered(name) || name == "File"
 }
 
 pub(crate) fn is_error_class(name: &str) -> bool
@@ -50,14 +65,26 @@ pub(crate) fn is_error_class(name: &str) -> bool
     )
 }
 
-fn is_callable(functions: &IndexSet<Text>, name: &Text, plain: bool) -> bool
-    ensures { result ≡ spec.is_callable (is_among functions.now.keys) name.now plain }
+fn is_callable(known: &Known, name: &Text, plain: bool) -> bool
+    ensures { result ≡ spec.is_callable (told_by known.now).is_function name.now plain }
 {
     if is_builtin(name.as_str()) {
         is_offered(name.as_str()) && plain
     } else {
-        functions.contains(name)
+        known.functions.contains(name)
     }
+}
+
+/// Whether the name of what may be called with these keywords stands there, and no local.
+fn may_be_called(
+    known: &Known,
+    locals: &IndexSet<Text>,
+    name: &Text,
+    keywords: &[(Name, Node<Name>)],
+) -> bool
+    ensures { result ≡ spec.may_be_called (told_by known.now) (is_among locals.now.keys name.now) name.now (keyword_names keywords.now) }
+{
+    !locals.contains(name) && is_callable(known, name, keywords.is_empty())
 }
 
 /// Whether the name of a class stands there, and no local.
@@ -65,6 +92,13 @@ fn is_raisable(locals: &IndexSet<Text>, name: &Text) -> bool
     ensures { result ≡ (not (is_among locals.now.keys name.now) && is_among spec.error_classes name.now) }
 {
     !locals.contains(name) && is_error_class(name.as_str())
+}
+
+/// Whether the name of a task stands there, and no local.
+fn is_task(known: &Known, locals: &IndexSet<Text>, name: &Text) -> bool
+    ensures { result ≡ (not (is_among locals.now.keys name.now) && (told_by known.now).is_task name.now) }
+{
+    !locals.contains(name) && known.tasks.contains(name)
 }
 
 /// Refuses the name, unless it is known.
@@ -94,20 +128,17 @@ fn note_keywords(
     Ok(())
 }
 
-fn judge_call(
+/// Refuses the name that is called, unless it may be, and each keyword behind an equal one.
+fn judge_called(
     alloc: Global,
-    functions: &IndexSet<Text>,
-    locals: &IndexSet<Text>,
+    may: bool,
     name: &Name,
     keywords: &[(Name, Node<Name>)],
     all: &mut Vec<Refusal>,
 ) -> Result<(), OutOfMemory>
-    ensures { let local = is_among locals.now.keys name.now.text in
-        OnOk result (all.new.items ≡ all.old.items ++ spec.call_refusals (is_among functions.now.keys) local name.now (keyword_names keywords.now)) }
+    ensures { OnOk result (all.new.items ≡ all.old.items ++ spec.call_refusals may name.now (keyword_names keywords.now)) }
 {
-    let known = !locals.contains(&name.text)
-        && is_callable(functions, &name.text, keywords.is_empty());
-    expect(known, name, all)?;
+    expect(may, name, all)?;
     note_keywords(alloc, keywords, all)
 }
 
@@ -115,13 +146,13 @@ fn judge_call(
 #[cycle(nodes)]
 fn judge_node(
     alloc: Global,
-    functions: &IndexSet<Text>,
+    known: &Known,
     locals: &mut IndexSet<Text>,
     node: &Node<Name>,
     all: &mut Vec<Refusal>,
 ) -> Result<(), OutOfMemory>
     ensures locals { OnOk result (locals.new.keys ≡ locals.old.keys) }
-    ensures all { OnOk result (all.new.items ≡ all.old.items ++ node_refusals (is_among functions.now.keys) (is_among locals.old.keys) node.now) }
+    ensures all { OnOk result (all.new.items ≡ all.old.items ++ node_refusals (told_by known.now) (is_among locals.old.keys) node.now) }
 {
     match node {
         Node::Lit(_) => Ok(()),
@@ -130,65 +161,124 @@ fn judge_node(
             name,
             positional,
             keywords,
-        } => {
-            judge_call(alloc, functions, locals, name, keywords.as_slice(), all)?;
-            judge_nodes(alloc, functions, locals, positional.as_slice(), all)?;
-            judge_keywords(alloc, functions, locals, keywords.as_slice(), all)
-        }
+        } => judge_call(alloc, known, locals, name, positional, keywords, all),
         Node::And(parts) | Node::Or(parts) | Node::List(parts) => {
-            judge_nodes(alloc, functions, locals, parts.as_slice(), all)
+            judge_nodes(alloc, known, locals, parts.as_slice(), all)
         }
-        Node::Dict(pairs) => judge_pairs(alloc, functions, locals, pairs.as_slice(), all),
+        Node::Dict(pairs) => judge_pairs(alloc, known, locals, pairs.as_slice(), all),
         Node::Comp {
             element,
             name,
             iterable,
             condition,
         } => {
-            judge_node(alloc, functions, locals, iterable.get(), all)?;
-            judge_within(alloc, functions, locals, name, element, condition, all)
+            judge_node(alloc, known, locals, iterable.get(), all)?;
+            judge_within(alloc, known, locals, name, element, condition, all)
         }
-        _ => judge_operation(alloc, functions, locals, node, all),
+        _ => judge_operation(alloc, known, locals, node, all),
     }
+}
+
+/// Judges the names in a call, by its form.
+#[cycle(nodes)]
+fn judge_call(
+    alloc: Global,
+    known: &Known,
+    locals: &mut IndexSet<Text>,
+    name: &Name,
+    positional: &Items<Node<Name>>,
+    keywords: &Items<(Name, Node<Name>)>,
+    all: &mut Vec<Refusal>,
+) -> Result<(), OutOfMemory>
+    ensures locals { OnOk result (locals.new.keys ≡ locals.old.keys) }
+    ensures all { let call = node.Call name.now positional.now keywords.now in
+        OnOk result (all.new.items ≡ all.old.items ++ node_refusals (told_by known.now) (is_among locals.old.keys) call) }
+{
+    let positional = positional.as_slice();
+    let keywords = keywords.as_slice();
+    let may = may_be_called(known, locals, &name.text, keywords);
+    match form_of(special_named(name.text.as_str()), positional, keywords) {
+        Form::Plain => {
+            judge_called(alloc, may, name, keywords, all)?;
+            judge_arguments(alloc, known, locals, positional, keywords, all)
+        }
+        Form::Wrong => {
+            judge_called(alloc, false, name, keywords, all)?;
+            judge_arguments(alloc, known, locals, positional, keywords, all)
+        }
+        Form::Mapping { task, list } => {
+            judge_called(alloc, may, name, keywords, all)?;
+            expect(is_task(known, locals, &task.text), task, all)?;
+            judge_node(alloc, known, locals, list, all)
+        }
+        Form::Catching {
+            tried,
+            class,
+            recover,
+        } => {
+            judge_called(alloc, may, name, keywords, all)?;
+            judge_node(alloc, known, locals, tried, all)?;
+            expect(is_raisable(locals, &class.text), class, all)?;
+            expect(is_task(known, locals, &recover.text), recover, all)
+        }
+    }
+}
+
+/// Judges the arguments of a call as values.
+#[cycle(nodes)]
+fn judge_arguments(
+    alloc: Global,
+    known: &Known,
+    locals: &mut IndexSet<Text>,
+    positional: &[Node<Name>],
+    keywords: &[(Name, Node<Name>)],
+    all: &mut Vec<Refusal>,
+) -> Result<(), OutOfMemory>
+    ensures locals { OnOk result (locals.new.keys ≡ locals.old.keys) }
+    ensures all { let judged = node_refusals (told_by known.now) (is_among locals.old.keys) in
+        OnOk result (all.new.items ≡ all.old.items ++ (joined (map judged positional.now) ++ joined (map (λ k. judged k.1) keywords.now))) }
+{
+    judge_nodes(alloc, known, locals, positional, all)?;
+    judge_keywords(alloc, known, locals, keywords, all)
 }
 
 /// Judges the names in an operation.
 #[cycle(nodes)]
 fn judge_operation(
     alloc: Global,
-    functions: &IndexSet<Text>,
+    known: &Known,
     locals: &mut IndexSet<Text>,
     node: &Node<Name>,
     all: &mut Vec<Refusal>,
 ) -> Result<(), OutOfMemory>
     requires { is_operation node.now ≡ true }
     ensures locals { OnOk result (locals.new.keys ≡ locals.old.keys) }
-    ensures all { OnOk result (all.new.items ≡ all.old.items ++ node_refusals (is_among functions.now.keys) (is_among locals.old.keys) node.now) }
+    ensures all { OnOk result (all.new.items ≡ all.old.items ++ node_refusals (told_by known.now) (is_among locals.old.keys) node.now) }
 {
     match node {
         Node::Path(part) | Node::Neg(part) | Node::Not(part) => {
-            judge_node(alloc, functions, locals, part.get(), all)
+            judge_node(alloc, known, locals, part.get(), all)
         }
         Node::Index { receiver, index } => {
-            judge_both(alloc, functions, locals, receiver.get(), index.get(), all)
+            judge_both(alloc, known, locals, receiver.get(), index.get(), all)
         }
         Node::Compare { left, right, .. } => {
-            judge_both(alloc, functions, locals, left.get(), right.get(), all)
+            judge_both(alloc, known, locals, left.get(), right.get(), all)
         }
         Node::Method {
             receiver,
             arguments,
             ..
         } => {
-            judge_node(alloc, functions, locals, receiver.get(), all)?;
-            judge_nodes(alloc, functions, locals, arguments.as_slice(), all)
+            judge_node(alloc, known, locals, receiver.get(), all)?;
+            judge_nodes(alloc, known, locals, arguments.as_slice(), all)
         }
-        Node::Chain { first, rest } => judge_chain(alloc, functions, locals, first, rest, all),
+        Node::Chain { first, rest } => judge_chain(alloc, known, locals, first, rest, all),
         Node::Cond {
             test,
             when_true,
             when_false,
-        } => judge_choice(alloc, functions, locals, test, when_true, when_false, all),
+        } => judge_choice(alloc, known, locals, test, when_true, when_false, all),
         _ => unreachable!(),
     }
 }
@@ -196,24 +286,24 @@ fn judge_operation(
 #[cycle(nodes)]
 fn judge_chain(
     alloc: Global,
-    functions: &IndexSet<Text>,
+    known: &Known,
     locals: &mut IndexSet<Text>,
     first: &Boxed<Node<Name>>,
     links: &Items<(Operator, Node<Name>)>,
     all: &mut Vec<Refusal>,
 ) -> Result<(), OutOfMemory>
     ensures locals { OnOk result (locals.new.keys ≡ locals.old.keys) }
-    ensures all { let judged = node_refusals (is_among functions.now.keys) (is_among locals.old.keys) in
+    ensures all { let judged = node_refusals (told_by known.now) (is_among locals.old.keys) in
         OnOk result (all.new.items ≡ all.old.items ++ (judged first.now ++ joined (map (λ k. judged k.1) links.now))) }
 {
-    judge_node(alloc, functions, locals, first.get(), all)?;
-    judge_links(alloc, functions, locals, links.as_slice(), all)
+    judge_node(alloc, known, locals, first.get(), all)?;
+    judge_links(alloc, known, locals, links.as_slice(), all)
 }
 
 #[cycle(nodes)]
 fn judge_choice(
     alloc: Global,
-    functions: &IndexSet<Text>,
+    known: &Known,
     locals: &mut IndexSet<Text>,
     test: &Boxed<Node<Name>>,
     when_true: &Boxed<Node<Name>>,
@@ -221,19 +311,19 @@ fn judge_choice(
     all: &mut Vec<Refusal>,
 ) -> Result<(), OutOfMemory>
     ensures locals { OnOk result (locals.new.keys ≡ locals.old.keys) }
-    ensures all { let judged = node_refusals (is_among functions.now.keys) (is_among locals.old.keys) in
+    ensures all { let judged = node_refusals (told_by known.now) (is_among locals.old.keys) in
         OnOk result (all.new.items ≡ all.old.items ++ (judged test.now ++ (judged when_true.now ++ judged when_false.now))) }
 {
-    judge_node(alloc, functions, locals, test.get(), all)?;
-    judge_node(alloc, functions, locals, when_true.get(), all)?;
-    judge_node(alloc, functions, locals, when_false.get(), all)
+    judge_node(alloc, known, locals, test.get(), all)?;
+    judge_node(alloc, known, locals, when_true.get(), all)?;
+    judge_node(alloc, known, locals, when_false.get(), all)
 }
 
 /// Judges the element and the condition of a comprehension, where its name is a local.
 #[cycle(nodes)]
 fn judge_within(
     alloc: Global,
-    functions: &IndexSet<Text>,
+    known: &Known,
     locals: &mut IndexSet<Text>,
     name: &Name,
     element: &Boxed<Node<Name>>,
@@ -241,13 +331,13 @@ fn judge_within(
     all: &mut Vec<Refusal>,
 ) -> Result<(), OutOfMemory>
     ensures locals { OnOk result (locals.new.keys ≡ locals.old.keys) }
-    ensures all { let judged = node_refusals (is_among functions.now.keys) (is_among (spec.with_name locals.old.keys name.now.text)) in
+    ensures all { let judged = node_refusals (told_by known.now) (is_among (spec.with_name locals.old.keys name.now.text)) in
         OnOk result (all.new.items ≡ all.old.items ++ (judged element.now ++ joined (map judged condition.now))) }
 {
     let outer = locals.len();
     locals.insert(name.text.copy(alloc)?)?;
-    judge_node(alloc, functions, locals, element.get(), all)?;
-    judge_nodes(alloc, functions, locals, condition.as_slice(), all)?;
+    judge_node(alloc, known, locals, element.get(), all)?;
+    judge_nodes(alloc, known, locals, condition.as_slice(), all)?;
     locals.truncate(outer);
     Ok(())
 }
@@ -255,34 +345,34 @@ fn judge_within(
 #[cycle(nodes)]
 fn judge_both(
     alloc: Global,
-    functions: &IndexSet<Text>,
+    known: &Known,
     locals: &mut IndexSet<Text>,
     left: &Node<Name>,
     right: &Node<Name>,
     all: &mut Vec<Refusal>,
 ) -> Result<(), OutOfMemory>
     ensures locals { OnOk result (locals.new.keys ≡ locals.old.keys) }
-    ensures all { let judged = node_refusals (is_among functions.now.keys) (is_among locals.old.keys) in
+    ensures all { let judged = node_refusals (told_by known.now) (is_among locals.old.keys) in
         OnOk result (all.new.items ≡ all.old.items ++ (judged left.now ++ judged right.now)) }
 {
-    judge_node(alloc, functions, locals, left, all)?;
-    judge_node(alloc, functions, locals, right, all)
+    judge_node(alloc, known, locals, left, all)?;
+    judge_node(alloc, known, locals, right, all)
 }
 
 #[cycle(nodes)]
 fn judge_nodes(
     alloc: Global,
-    functions: &IndexSet<Text>,
+    known: &Known,
     locals: &mut IndexSet<Text>,
     nodes: &[Node<Name>],
     all: &mut Vec<Refusal>,
 ) -> Result<(), OutOfMemory>
     ensures locals { OnOk result (locals.new.keys ≡ locals.old.keys) }
-    ensures all { let judged = node_refusals (is_among functions.now.keys) (is_among locals.old.keys) in
+    ensures all { let judged = node_refusals (told_by known.now) (is_among locals.old.keys) in
         OnOk result (all.new.items ≡ all.old.items ++ joined (map judged nodes.now)) }
 {
     for node in nodes {
-        judge_node(alloc, functions, locals, node, all)?;
+        judge_node(alloc, known, locals, node, all)?;
     }
     Ok(())
 }
@@ -290,17 +380,17 @@ fn judge_nodes(
 #[cycle(nodes)]
 fn judge_keywords(
     alloc: Global,
-    functions: &IndexSet<Text>,
+    known: &Known,
     locals: &mut IndexSet<Text>,
     keywords: &[(Name, Node<Name>)],
     all: &mut Vec<Refusal>,
 ) -> Result<(), OutOfMemory>
     ensures locals { OnOk result (locals.new.keys ≡ locals.old.keys) }
-    ensures all { let judged = node_refusals (is_among functions.now.keys) (is_among locals.old.keys) in
+    ensures all { let judged = node_refusals (told_by known.now) (is_among locals.old.keys) in
         OnOk result (all.new.items ≡ all.old.items ++ joined (map (λ k. judged k.1) keywords.now)) }
 {
     for keyword in keywords {
-        judge_node(alloc, functions, locals, &keyword.1, all)?;
+        judge_node(alloc, known, locals, &keyword.1, all)?;
     }
     Ok(())
 }
@@ -308,17 +398,17 @@ fn judge_keywords(
 #[cycle(nodes)]
 fn judge_links(
     alloc: Global,
-    functions: &IndexSet<Text>,
+    known: &Known,
     locals: &mut IndexSet<Text>,
     links: &[(Operator, Node<Name>)],
     all: &mut Vec<Refusal>,
 ) -> Result<(), OutOfMemory>
     ensures locals { OnOk result (locals.new.keys ≡ locals.old.keys) }
-    ensures all { let judged = node_refusals (is_among functions.now.keys) (is_among locals.old.keys) in
+    ensures all { let judged = node_refusals (told_by known.now) (is_among locals.old.keys) in
         OnOk result (all.new.items ≡ all.old.items ++ joined (map (λ k. judged k.1) links.now)) }
 {
     for link in links {
-        judge_node(alloc, functions, locals, &link.1, all)?;
+        judge_node(alloc, known, locals, &link.1, all)?;
     }
     Ok(())
 }
@@ -326,17 +416,17 @@ fn judge_links(
 #[cycle(nodes)]
 fn judge_pairs(
     alloc: Global,
-    functions: &IndexSet<Text>,
+    known: &Known,
     locals: &mut IndexSet<Text>,
     pairs: &[(Node<Name>, Node<Name>)],
     all: &mut Vec<Refusal>,
 ) -> Result<(), OutOfMemory>
     ensures locals { OnOk result (locals.new.keys ≡ locals.old.keys) }
-    ensures all { let judged = node_refusals (is_among functions.now.keys) (is_among locals.old.keys) in
+    ensures all { let judged = node_refusals (told_by known.now) (is_among locals.old.keys) in
         OnOk result (all.new.items ≡ all.old.items ++ joined (map (λ p. judged p.0 ++ judged p.1) pairs.now)) }
 {
     for pair in pairs {
-        judge_both(alloc, functions, locals, &pair.0, &pair.1, all)?;
+        judge_both(alloc, known, locals, &pair.0, &pair.1, all)?;
     }
     Ok(())
 }
@@ -344,17 +434,17 @@ fn judge_pairs(
 #[tactic(auto, unfolding(crate::specs::Names::node_refusals, crate::specs::Names::refusals_of))]
 fn judge_returned(
     alloc: Global,
-    functions: &IndexSet<Text>,
+    known: &Known,
     locals: &mut IndexSet<Text>,
     value: &Option<Node<Name>>,
     all: &mut Vec<Refusal>,
 ) -> Result<(), OutOfMemory>
     ensures locals { OnOk result (locals.new.keys ≡ locals.old.keys) }
-    ensures all { let judged = spec.refusals_of (is_among functions.now.keys) (is_among locals.old.keys) in
+    ensures all { let judged = spec.refusals_of (told_by known.now) (is_among locals.old.keys) in
         OnOk result (all.new.items ≡ all.old.items ++ judged (returned_uses value.now)) }
 {
     match value {
-        Some(value) => judge_node(alloc, functions, locals, value, all),
+        Some(value) => judge_node(alloc, known, locals, value, all),
         None => Ok(()),
     }
 }
@@ -362,17 +452,17 @@ fn judge_returned(
 #[cycle(statements)]
 pub(crate) fn judge_body(
     alloc: Global,
-    functions: &IndexSet<Text>,
+    known: &Known,
     locals: &mut IndexSet<Text>,
     body: &[Statement<Name>],
     all: &mut Vec<Refusal>,
 ) -> Result<(), OutOfMemory>
     ensures locals { OnOk result (locals.new.keys ≡ locals.old.keys) }
-    ensures all { let judged = spec.statement_refusals (is_among functions.now.keys) (is_among locals.old.keys) in
+    ensures all { let judged = spec.statement_refusals (told_by known.now) (is_among locals.old.keys) in
         OnOk result (all.new.items ≡ all.old.items ++ joined (map judged body.now)) }
 {
     for statement in body {
-        judge_statement(alloc, functions, locals, statement, all)?;
+        judge_statement(alloc, known, locals, statement, all)?;
     }
     Ok(())
 }
@@ -380,36 +470,36 @@ pub(crate) fn judge_body(
 #[cycle(statements)]
 fn judge_statement(
     alloc: Global,
-    functions: &IndexSet<Text>,
+    known: &Known,
     locals: &mut IndexSet<Text>,
     statement: &Statement<Name>,
     all: &mut Vec<Refusal>,
 ) -> Result<(), OutOfMemory>
     ensures locals { OnOk result (locals.new.keys ≡ locals.old.keys) }
-    ensures all { let judged = spec.statement_refusals (is_among functions.now.keys) (is_among locals.old.keys) in
+    ensures all { let judged = spec.statement_refusals (told_by known.now) (is_among locals.old.keys) in
         OnOk result (all.new.items ≡ all.old.items ++ judged statement.now) }
 {
     match statement {
-        Statement::Assign { value, .. } => judge_node(alloc, functions, locals, value, all),
-        Statement::Expr(value) => judge_node(alloc, functions, locals, value, all),
-        Statement::Return(value) => judge_returned(alloc, functions, locals, value, all),
+        Statement::Assign { value, .. } => judge_node(alloc, known, locals, value, all),
+        Statement::Expr(value) => judge_node(alloc, known, locals, value, all),
+        Statement::Return(value) => judge_returned(alloc, known, locals, value, all),
         Statement::Pass => Ok(()),
         Statement::For { iterable, body, .. } => {
-            judge_guarded(alloc, functions, locals, iterable, body.as_slice(), all)
+            judge_guarded(alloc, known, locals, iterable, body.as_slice(), all)
         }
         Statement::While { test, body } => {
-            judge_guarded(alloc, functions, locals, test, body.as_slice(), all)
+            judge_guarded(alloc, known, locals, test, body.as_slice(), all)
         }
         Statement::If {
             branches,
             otherwise,
         } => {
-            judge_branches(alloc, functions, locals, branches.as_slice(), all)?;
-            judge_body(alloc, functions, locals, otherwise.as_slice(), all)
+            judge_branches(alloc, known, locals, branches.as_slice(), all)?;
+            judge_body(alloc, known, locals, otherwise.as_slice(), all)
         }
         Statement::Raise { class, text } => {
             expect(is_raisable(locals, &class.text), class, all)?;
-            judge_node(alloc, functions, locals, text, all)
+            judge_node(alloc, known, locals, text, all)
         }
     }
 }
@@ -418,43 +508,36 @@ fn judge_statement(
 #[cycle(statements)]
 fn judge_guarded(
     alloc: Global,
-    functions: &IndexSet<Text>,
+    known: &Known,
     locals: &mut IndexSet<Text>,
     node: &Node<Name>,
     body: &[Statement<Name>],
     all: &mut Vec<Refusal>,
 ) -> Result<(), OutOfMemory>
     ensures locals { OnOk result (locals.new.keys ≡ locals.old.keys) }
-    ensures all { let first = node_refusals (is_among functions.now.keys) (is_among locals.old.keys) node.now in
-        let judged = spec.statement_refusals (is_among functions.now.keys) (is_among locals.old.keys) in
+    ensures all { let first = node_refusals (told_by known.now) (is_among locals.old.keys) node.now in
+        let judged = spec.statement_refusals (told_by known.now) (is_among locals.old.keys) in
         OnOk result (all.new.items ≡ all.old.items ++ (first ++ joined (map judged body.now))) }
 {
-    judge_node(alloc, functions, locals, node, all)?;
-    judge_body(alloc, functions, locals, body, all)
+    judge_node(alloc, known, locals, node, all)?;
+    judge_body(alloc, known, locals, body, all)
 }
 
 #[cycle(statements)]
 fn judge_branches(
     alloc: Global,
-    functions: &IndexSet<Text>,
+    known: &Known,
     locals: &mut IndexSet<Text>,
     branches: &[(Node<Name>, Items<Statement<Name>>)],
     all: &mut Vec<Refusal>,
 ) -> Result<(), OutOfMemory>
     ensures locals { OnOk result (locals.new.keys ≡ locals.old.keys) }
-    ensures all { let tested = node_refusals (is_among functions.now.keys) (is_among locals.old.keys) in
-        let judged = spec.statement_refusals (is_among functions.now.keys) (is_among locals.old.keys) in
+    ensures all { let tested = node_refusals (told_by known.now) (is_among locals.old.keys) in
+        let judged = spec.statement_refusals (told_by known.now) (is_among locals.old.keys) in
         OnOk result (all.new.items ≡ all.old.items ++ joined (map (λ b. tested b.0 ++ joined (map judged b.1)) branches.now)) }
 {
     for branch in branches {
-        judge_guarded(
-            alloc,
-            functions,
-            locals,
-            &branch.0,
-            branch.1.as_slice(),
-            all,
-        )?;
+        judge_guarded(alloc, known, locals, &branch.0, branch.1.as_slice(), all)?;
     }
     Ok(())
 }

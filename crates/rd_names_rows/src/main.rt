@@ -10,10 +10,11 @@ use std::alloc::Global;
 use std::fs;
 use std::process::ExitCode;
 
-const FILES: [&str; 13] = [
+const FILES: [&str; 14] = [
     "values.txt",
     "comprehensions.txt",
     "calls.txt",
+    "special.txt",
     "raised_classes.txt",
     "expressions.txt",
     "statements.txt",

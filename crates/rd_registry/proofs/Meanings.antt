@@ -1,5 +1,6 @@
 -- The code of a task means what the module's function means.
 use Rattle.std.proofs.Common.{◌≡◌, ℕ, zero, suc, ◌-◌, ◌≤◌, Bool, true, false, List, [], ◌∷◌, ◌++◌, map, filter, Option, None, Some, is_some, slice_get, refl, sym, ap, subst, subst₂, ◌∙◌, arith, inl, inr}
+use Rattle.std.proofs.Math.Path.{fun_ext}
 use Rattle.std.proofs.lemmas.List.Elements.{Contains-append_left, Contains-append_right}
 use Rattle.std.proofs.lemmas.Option.{slice_get-map}
 use Rattle.std.proofs.lemmas.Slice.Eq.{bytes_eq-Decides}
@@ -18,7 +19,11 @@ use Rattle.rd_tree.specs.declared.tree.TaskOption.{TaskOption}
 use Rattle.rd_tree.specs.declared.tree.Function.{Function}
 use Rattle.rd_tree.specs.declared.tree.Module.{Module}
 use Rattle.rd_names.specs.Options.{first_space}
+use Rattle.rd_names.specs.Special.{special_named}
+use Rattle.rd_names.specs.Uses.{special_at}
 use Rattle.rd_routine.specs.declared.builtin.Builtin.{Builtin}
+use Rattle.rd_routine.specs.declared.special.Special.{Special}
+use Rattle.rd_routine.specs.Callees.{known, special_of}
 use Rattle.rd_routine.specs.declared.routine.Callee.{Callee}
 use Rattle.rd_routine.specs.declared.routine.Callee.TheVariants as callee
 use Rattle.rd_code.specs.declared.mention.Mention.{Mention}
@@ -27,19 +32,19 @@ use Rattle.rd_code.specs.declared.mention.Role.TheVariants as role
 use Rattle.rd_code.specs.declared.named.Helper.{Helper}
 use Rattle.rd_code.specs.declared.named.NamedUse.{NamedUse}
 use Rattle.rd_code.specs.declared.code.TaskCode.{TaskCode}
-use Rattle.rd_code.specs.Known.{builtin_named, class_named}
-use Rattle.rd_code.specs.Mentions.{plain, mentions_in_block}
-use Rattle.rd_code.specs.Numbering.{place_among, use_among, word_by, word_or, word_in, helper_at, builtin_of, literal_value, literal_at}
+use Rattle.rd_code.specs.Known.{builtin_named, special_or, built_in, class_named}
+use Rattle.rd_code.specs.Mentions.{plain, mentions_in_block, named_in_block}
+use Rattle.rd_code.specs.Numbering.{place_among, use_among, word_by, word_or, word_in, helper_at, literal_value, literal_at}
 use Rattle.rd_code.specs.Numbering as numbering
 use Rattle.rd_code.specs.Renaming.{renamed_first}
 use Rattle.rd_interpreter.specs.Body as body
 use Rattle.rd_interpreter.specs.Body.{literal}
-use Rattle.rd_interpreter.specs.Running.{own, known}
+use Rattle.rd_interpreter.specs.Running.{own}
 use Rattle.rd_body.specs.Code as code
 use Rattle.rd_body.specs.Renaming.{mentions_of, IsHelperAt, SameCallee, IsRenamed, AreRenamed}
 use Rattle.rd_body.proofs.Renamed.{whole_renamed}
 use Rattle.rd_registry.specs.declared.functions.Found.{Found}
-use Rattle.rd_registry.specs.Bodies.{callee_by, helpers_of, task_name_by, callee_or, callee_of, parameter_with_literal, function_of, body}
+use Rattle.rd_registry.specs.Bodies.{callee_by, helpers_with, function_called, helpers_of, task_name_by, callee_or, callee_of, parameter_with_literal, function_of, body}
 use Rattle.rd_registry.specs.Codes.{text_of, block_of, parameter_of, helper_of, is_outside, outside_of, outside, use_by, use_or, use_with}
 use Rattle.rd_registry.specs.Functions as functions
 use Rattle.rd_registry.specs.Functions.{found_of, found_among, callee_in}
@@ -71,11 +76,11 @@ not_plain (p ∷ ps) r name e rest c = by (cases (plain p) (map plain ps ++ rest
     by (inr d) more = more d
 
 -- a name with such a role that stands in a function is one that isn't local there
-pub met_outside : (k : Function) (ms : List (Mention Name)) → ms ≡ mentions_in_block k.body → (ps : List Name) (r : Role) (name : Name) → is_outside r ≡ true → IsAmong (map plain ps ++ ms) (named_as r name) → Contains (outside (block_of k.body)) name.text
+pub met_outside : (k : Function) (ms : List (Mention Name)) → ms ≡ mentions_in_block special_at k.body → (ps : List Name) (r : Role) (name : Name) → is_outside r ≡ true → IsAmong (map plain ps ++ ms) (named_as r name) → Contains (outside (block_of k.body)) name.text
 met_outside k ms q ps r name e u =
-    let c : Contains (mentions_in_block k.body) (named_as r name) = subst (λ xs. Contains xs (named_as r name)) q (not_plain ps r name e ms (among (map plain ps ++ ms) (named_as r name) u)) in
-    let d : Contains (mentions_in_block (block_of k.body)) (mention_with text_of (named_as r name)) = subst (λ xs. Contains xs (mention_with text_of (named_as r name))) (sym (block_mentions text_of k.body)) (in_map (mention_with text_of) (mentions_in_block k.body) (named_as r name) c) in
-    outside_kept (mentions_in_block (block_of k.body)) (mention_with text_of (named_as r name)) e d
+    let c : Contains (mentions_in_block special_at k.body) (named_as r name) = subst (λ xs. Contains xs (named_as r name)) q (not_plain ps r name e ms (among (map plain ps ++ ms) (named_as r name) u)) in
+    let d : Contains (named_in_block (block_of k.body)) (mention_with text_of (named_as r name)) = subst (λ xs. Contains xs (mention_with text_of (named_as r name))) (sym (block_mentions text_of special_at special_named (λ x. refl) k.body)) (in_map (mention_with text_of) (mentions_in_block special_at k.body) (named_as r name) c) in
+    outside_kept (named_in_block (block_of k.body)) (mention_with text_of (named_as r name)) e d
 
 -- ---- literals
 
@@ -103,6 +108,20 @@ plain_parameters : (F : Type 0) (ps : List Parameter) → map (λ p. plain p.0) 
 plain_parameters F [] = refl
 plain_parameters F (p ∷ ps) = ap (λ ms. plain p.name ∷ ms) (plain_parameters F ps)
 
+-- ---- what is special
+
+-- no builtin is a helper
+no_helper : (s : Option Special) (b : Option Builtin) (p : ℕ) → special_or s b ≡ Some (callee.Helper p) → ⊥
+no_helper (Some s) b p e = absurd (let no : Some (callee.Special s) ≡ Some (callee.Helper p) = e in cc)
+no_helper None (Some b) p e = absurd (let no : Some (callee.Builtin b) ≡ Some (callee.Helper p) = e in cc)
+no_helper None None p e = absurd (let no : None ≡ Some (callee.Helper p) = e in cc)
+
+-- what a call of a name makes
+special_callee : (s : Option Special) (b : Option Builtin) (function : Option Callee) → special_of (known function) ≡ None → special_of (callee_or (special_or s b) function) ≡ s
+special_callee (Some s) b function e = refl
+special_callee None (Some b) function e = refl
+special_callee None None function e = e
+
 -- ---- uses
 
 use_name_by : (text : List ℕ) (c : Option Callee) → (use_by text c).name ≡ text
@@ -110,15 +129,16 @@ use_name_by text None = refl
 use_name_by text (Some (callee.Task task)) = refl
 use_name_by text (Some (callee.Helper place)) = refl
 use_name_by text (Some (callee.Builtin builtin)) = refl
+use_name_by text (Some (callee.Special made)) = refl
 use_name_by text (Some callee.Unknown) = refl
 
-use_name_or : (text : List ℕ) (b : Option Builtin) (c : Option Callee) → (use_or text b c).name ≡ text
+use_name_or : (text : List ℕ) (b c : Option Callee) → (use_or text b c).name ≡ text
 use_name_or text None c = use_name_by text c
 use_name_or text (Some b) c = refl
 
 module _ (callees : List ℕ → Option Callee) where
   use_name : (text : List ℕ) → (use_with callees text).name ≡ text
-  use_name text = use_name_or text (builtin_named text) (callees text)
+  use_name text = use_name_or text (built_in text) (callees text)
 
   use_if : (x t : List ℕ) (ts : List (List ℕ)) (b : Bool) → bytes_eq t (use_with callees x).name ≡ b → (Contains ts t → use_among (map (use_with callees) ts) t ≡ Some (use_with callees t)) → (x ≡ t) ⊎ Contains ts t
       → (if b then Some (use_with callees x) else use_among (map (use_with callees) ts) t) ≡ Some (use_with callees t)
@@ -175,6 +195,32 @@ module _ (m : Module) where
   callee_builtin : (name : List ℕ) (o : Option (List TaskOption)) (p : ℕ) (b : Builtin) → callee_by p (task_name_by space name o) ≡ callee.Builtin b → ⊥
   callee_builtin name None p b e = absurd (let no : callee.Helper p ≡ callee.Builtin b = e in cc)
   callee_builtin name (Some options) p b e = absurd (let no : callee_by p (task_name_by space name (Some options)) ≡ callee.Builtin b = e in cc)
+
+  callee_special : (name : List ℕ) (o : Option (List TaskOption)) (p : ℕ) (b : Special) → callee_by p (task_name_by space name o) ≡ callee.Special b → ⊥
+  callee_special name None p b e = absurd (let no : callee.Helper p ≡ callee.Special b = e in cc)
+  callee_special name (Some options) p b e = absurd (let no : callee_by p (task_name_by space name (Some options)) ≡ callee.Special b = e in cc)
+
+  none_special_by : (o : Option (List ℕ)) (p : ℕ) → special_of (callee_by p o) ≡ None
+  none_special_by None p = refl
+  none_special_by (Some full) p = refl
+
+  none_special_if : (b : Bool) (c : Callee) (rest : Option Callee) → special_of c ≡ None → special_of (known rest) ≡ None → special_of (known (if b then Some c else rest)) ≡ None
+  none_special_if true c rest e h = e
+  none_special_if false c rest e h = h
+
+  -- a function that is found makes nothing special
+  no_function_special : (n : ℕ) (fs : List Function) (text : List ℕ) → special_of (known (function_called space n fs text)) ≡ None
+  no_function_special n [] text = refl
+  no_function_special n (f ∷ fs) text =
+      none_special_if (bytes_eq text f.name.text) (callee_by n (task_name_by space f.name.text f.task)) (function_called space (helpers_with n f.task) fs text) (none_special_by (task_name_by space f.name.text f.task) n)
+      (no_function_special (helpers_with n f.task) fs text)
+
+  -- no function is special
+  no_special : (o : Option Found) (text : List ℕ) (b : Special) → found text ≡ o → callee_in o ≡ Some (callee.Special b) → ⊥
+  no_special None text b e h = absurd (let no : None ≡ Some (callee.Special b) = h in cc)
+  no_special (Some f) text b e h =
+      let u = located space 0 m.functions text f e in
+      callee_special u.function.name.text u.function.task u.place b (sym (ap (λ x. x.callee) u.is) ∙ some_same f.callee (callee.Special b) h)
 
   -- no function is a builtin
   no_builtin : (o : Option Found) (text : List ℕ) (b : Builtin) → found text ≡ o → callee_in o ≡ Some (callee.Builtin b) → ⊥
@@ -308,27 +354,32 @@ module _ (m : Module) where
     is_helped : (text : List ℕ) (p : ℕ) → Named text p → names_helper helpers text ≡ true
     is_helped text p w = ap is_some w.there
 
-    callee_agrees_by : (k : Function) → Complete k → (text : List ℕ) → Contains (outside (block_of k.body)) text → (b : Option Builtin) (c : Option Callee) → builtin_named text ≡ b → callees text ≡ c
+    callee_agrees_by : (k : Function) → Complete k → (text : List ℕ) → Contains (outside (block_of k.body)) text → (b c : Option Callee) → built_in text ≡ b → callees text ≡ c
         → SameCallee Together (callee_or b c) (callee_of_use (use_or text b c))
-    callee_agrees_by k all text d (Some b) c e h = ap builtin_of e
+    callee_agrees_by k all text d (Some (callee.Helper p)) c e h = absurd (no_helper (special_named text) (builtin_named text) p e)
+    callee_agrees_by k all text d (Some (callee.Task full)) c e h = ap known e
+    callee_agrees_by k all text d (Some (callee.Builtin b)) c e h = ap known e
+    callee_agrees_by k all text d (Some (callee.Special b)) c e h = ap known e
+    callee_agrees_by k all text d (Some callee.Unknown) c e h = ap known e
     callee_agrees_by k all text d None None e h = refl
     callee_agrees_by k all text d None (Some (callee.Task full)) e h = refl
     callee_agrees_by k all text d None (Some (callee.Helper p)) e h =
         let w = named_helper (found text) text p refl h in
         helper_agrees text p w (all.helped text d (is_helped text p w))
     callee_agrees_by k all text d None (Some (callee.Builtin b)) e h = absurd (no_builtin (found text) text b refl h)
+    callee_agrees_by k all text d None (Some (callee.Special b)) e h = absurd (no_special (found text) text b refl h)
     callee_agrees_by k all text d None (Some callee.Unknown) e h = refl
 
     word_is : (text : List ℕ) → Contains resolves.texts text → word_in task.helpers task.names text ≡ word_or text (Some (word_by (place_among 0 task.helpers) (use_with callees text)))
     word_is text c = ap (λ us. word_or text (option_map (word_by (place_among 0 task.helpers)) (use_among us text))) resolves.uses ∙ ap (λ o. word_or text (option_map (word_by (place_among 0 task.helpers)) o)) (use_there callees resolves.texts text c)
 
-    same_known : (text : List ℕ) → callee_of m text ≡ callee_or (builtin_named text) (callees text)
-    same_known text = ap (callee_or (builtin_named text)) (sym (callee_found space 0 m.functions text))
+    same_known : (text : List ℕ) → callee_of m text ≡ callee_or (built_in text) (callees text)
+    same_known text = ap (callee_or (built_in text)) (sym (callee_found space 0 m.functions text))
 
     callee_agrees : (k : Function) → Complete k → (text : List ℕ) → Contains (outside (block_of k.body)) text → SameCallee Together (callee_of m text) (word_in task.helpers task.names text).callee
     callee_agrees k all text d =
         subst₂ (SameCallee Together) (sym (same_known text)) (sym (ap (λ w. w.callee) (word_is text (all.texts text d))))
-        (callee_agrees_by k all text d (builtin_named text) (callees text) refl refl)
+        (callee_agrees_by k all text d (built_in text) (callees text) refl refl)
 
     class_agrees : (k : Function) → Complete k → (text : List ℕ) → Contains (outside (block_of k.body)) text → (word_in task.helpers task.names text).class ≡ class_named text
     class_agrees k all text d = ap (λ w. w.class) (word_is text (all.texts text d)) ∙ ap class_named (use_name callees text)
@@ -339,11 +390,13 @@ module _ (m : Module) where
       abbrev as_code : List Parameter → List (Statement Name) → body.Routine (List ℕ) F
       as_code ps statements = code.function_with task.helpers task.names (map parameter_of ps) (block_of statements)
 
-      mentions_are : (k : Function) → mentions_of (function_of {F = F} m k) ≡ map plain (map (λ p. p.name) k.parameters) ++ mentions_in_block k.body
-      mentions_are k = ap (λ ms. ms ++ mentions_in_block k.body) (plain_parameters F k.parameters)
+      mentions_are : (k : Function) → mentions_of (function_of {F = F} m k) ≡ map plain (map (λ p. p.name) k.parameters) ++ mentions_in_block special_at k.body
+      mentions_are k =
+          ap (λ special. map (λ p. plain p.0) (map (parameter_with_literal {F = F}) k.parameters) ++ mentions_in_block special k.body) (fun_ext (λ x. special_callee (special_named x.text) (builtin_named x.text) (function_called space 0 m.functions x.text) (no_function_special 0 m.functions x.text)))
+          ∙ ap (λ ms. ms ++ mentions_in_block special_at k.body) (plain_parameters F k.parameters)
 
       met : (k : Function) (r : Role) (name : Name) → is_outside r ≡ true → IsAmong (mentions_of (function_of {F = F} m k)) (named_as r name) → Contains (outside (block_of k.body)) name.text
-      met k r name e u = met_outside k (mentions_in_block k.body) refl (map (λ p. p.name) k.parameters) r name e (subst (λ ms. IsAmong ms (named_as r name)) (mentions_are k) u)
+      met k r name e u = met_outside k (mentions_in_block special_at k.body) refl (map (λ p. p.name) k.parameters) r name e (subst (λ ms. IsAmong ms (named_as r name)) (mentions_are k) u)
 
       renames : (k : Function) → Complete k → IsRenamed Together (function_of {F = F} m k) (as_code k.parameters k.body)
       renames k all = record {

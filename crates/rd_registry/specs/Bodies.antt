@@ -12,12 +12,11 @@ use Rattle.rd_tree.specs.declared.tree.TaskOption.{TaskOption}
 use Rattle.rd_tree.specs.declared.tree.Function.{Function}
 use Rattle.rd_tree.specs.declared.tree.Module.{Module}
 use Rattle.rd_names.specs.Options.{full_name, first_space}
-use Rattle.rd_routine.specs.declared.builtin.Builtin.{Builtin}
 use Rattle.rd_routine.specs.declared.routine.Callee.{Callee}
 use Rattle.rd_routine.specs.declared.routine.Callee.TheVariants as callee
-use Rattle.rd_code.specs.Known.{builtin_named, class_named}
+use Rattle.rd_routine.specs.Callees.{known}
+use Rattle.rd_code.specs.Known.{built_in, class_named}
 use Rattle.rd_interpreter.specs.Body.{Routine, literal, literal_at, whole}
-use Rattle.rd_interpreter.specs.Running.{known}
 
 -- ---- functions of a module
 
@@ -70,12 +69,12 @@ function_called space place (f ∷ fs) text =
     if bytes_eq text f.name.text then Some (callee_by place (task_name_by space f.name.text f.task)) else function_called space (helpers_with place f.task) fs text
 
 -- a builtin, else a function
-abbrev pub callee_or : Option Builtin → Option Callee → Callee
-callee_or (Some b) function = callee.Builtin b
+abbrev pub callee_or : Option Callee → Option Callee → Callee
+callee_or (Some c) function = c
 callee_or None function = known function
 
 abbrev pub callee_of : Module → List ℕ → Callee
-callee_of m text = callee_or (builtin_named text) (function_called (first_space m.namespaces) 0 m.functions text)
+callee_of m text = callee_or (built_in text) (function_called (first_space m.namespaces) 0 m.functions text)
 
 -- ---- functions as bodies
 

@@ -7,7 +7,6 @@ use Rattle.rd_tree.specs.declared.tree.Name.{Name}
 use Rattle.rd_tree.specs.declared.tree.Parameter.{Parameter}
 use Rattle.rd_tree.specs.declared.tree.Statement.{Statement}
 use Rattle.rd_tree.specs.declared.tree.Function.{Function}
-use Rattle.rd_routine.specs.declared.builtin.Builtin.{Builtin}
 use Rattle.rd_routine.specs.declared.routine.Callee.{Callee}
 use Rattle.rd_routine.specs.declared.routine.Callee.TheVariants as callee
 use Rattle.rd_code.specs.declared.mention.Mention.{Mention}
@@ -16,8 +15,8 @@ use Rattle.rd_code.specs.declared.mention.Role.TheVariants as role
 use Rattle.rd_code.specs.declared.named.Helper.{Helper}
 use Rattle.rd_code.specs.declared.named.NamedUse.{NamedUse}
 use Rattle.rd_code.specs.declared.named.UseKind.TheVariants as kind
-use Rattle.rd_code.specs.Known.{builtin_named}
-use Rattle.rd_code.specs.Mentions.{mentions_in_block}
+use Rattle.rd_code.specs.Known.{built_in}
+use Rattle.rd_code.specs.Mentions.{named_in_block}
 use Rattle.rd_code.specs.Numbering.{literal_value}
 use Rattle.rd_code.specs.Renaming.{renamed_statement}
 
@@ -46,7 +45,7 @@ abbrev pub outside_of : List (Mention (List ℕ)) → List (List ℕ)
 outside_of ms = map (λ m. m.name) (filter (λ m. is_outside m.role) ms)
 
 abbrev pub outside : List (Statement (List ℕ)) → List (List ℕ)
-outside block = outside_of (mentions_in_block block)
+outside block = outside_of (named_in_block block)
 
 -- ---- what such a name is
 
@@ -57,12 +56,12 @@ use_by text (Some (callee.Helper place)) = record { name = text; kind = kind.Hel
 use_by text c = record { name = text; kind = kind.ErrorClass; task = [] }
 
 -- a builtin comes first
-abbrev pub use_or : List ℕ → Option Builtin → Option Callee → NamedUse
+abbrev pub use_or : List ℕ → Option Callee → Option Callee → NamedUse
 use_or text (Some b) c = record { name = text; kind = kind.Builtin; task = [] }
 use_or text None c = use_by text c
 
 abbrev pub use_with : (List ℕ → Option Callee) → List ℕ → NamedUse
-use_with callees text = use_or text (builtin_named text) (callees text)
+use_with callees text = use_or text (built_in text) (callees text)
 
 -- ---- tasks
 

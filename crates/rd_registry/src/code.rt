@@ -11,7 +11,7 @@ use crate::functions::{Functions, helper_named};
 use crate::reach::{all_outside, reached};
 use crate::tree::{block_of, parameters_of};
 use rd_base::{Copies, Items, OutOfMemory, Text};
-use rd_code::{Helpers, NamedUse, NamedUses, TaskCode, UseKind, builtin_named};
+use rd_code::{Helpers, NamedUse, NamedUses, TaskCode, UseKind, built_in};
 use rd_routine::Callee;
 use rd_tree::{Block, Function};
 use rd_value::signature::Signature;
@@ -71,7 +71,7 @@ fn function_use(alloc: Global, functions: &Functions, name: &Text) -> Result<Nam
 fn use_of(alloc: Global, functions: &Functions, name: &Text) -> Result<NamedUse, OutOfMemory>
     ensures { IfOk result (λ u. u ≡ spec.use_with (callees_by functions.now) name.now) }
 {
-    match builtin_named(name.as_str()) {
+    match built_in(name.as_str()) {
         Some(_) => {
             let empty = Text::from_str(alloc, "")?;
             Ok(named(name.copy(alloc)?, UseKind::Builtin, empty))

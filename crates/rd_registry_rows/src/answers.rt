@@ -44,7 +44,7 @@ fn push_pairs(line: &mut String, pairs: &[(Value, Expr)]) -> Option<()> {
     Some(())
 }
 
-/// A value as it is printed, or what a call, an operator, a list or a dict that isn't settled holds.
+/// A value as it is printed, or what an expression that isn't settled holds.
 #[cycle(shown)]
 fn push_expr(line: &mut String, expr: &Expr) -> Option<()> {
     match expr {
@@ -69,7 +69,40 @@ fn push_expr(line: &mut String, expr: &Expr) -> Option<()> {
             push_parts(line, parts.as_slice())?;
             line.push_str(")").ok()
         }
-        _ => line.push_str("another expression").ok(),
+        Expr::Cond {
+            test,
+            when_true,
+            when_false,
+        } => {
+            line.push_str("cond(").ok()?;
+            push_expr(line, test.get())?;
+            line.push_str(", ").ok()?;
+            push_expr(line, when_true.get())?;
+            line.push_str(", ").ok()?;
+            push_expr(line, when_false.get())?;
+            line.push_str(")").ok()
+        }
+        Expr::Map { task, list } => {
+            line.push_str("map_(").ok()?;
+            line.push_str(task.as_str()).ok()?;
+            line.push_str(", ").ok()?;
+            push_expr(line, list.get())?;
+            line.push_str(")").ok()
+        }
+        Expr::Catch {
+            tried,
+            class,
+            recover,
+        } => {
+            line.push_str("catch(").ok()?;
+            push_expr(line, tried.get())?;
+            line.push_str(", ").ok()?;
+            line.push_str(class.name()).ok()?;
+            line.push_str(", ").ok()?;
+            line.push_str(recover.as_str()).ok()?;
+            line.push_str(")").ok()
+        }
+        Expr::Input(_) => line.push_str("input").ok(),
     }
 }
 

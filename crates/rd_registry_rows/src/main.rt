@@ -1,6 +1,6 @@
 //! Runs the task `main` of each row's source as a body, and prints the row with what it comes to.
 //!
-//! - `operators.txt`, `displays.txt`, `builtins.txt`, `methods.txt`, `pending.txt` and `limits.txt`: a line is the expression that `main` returns. `f` is a task.
+//! - `operators.txt`, `displays.txt`, `builtins.txt`, `methods.txt`, `pending.txt`, `special.txt` and `limits.txt`: a line is the expression that `main` returns. `f` is a task.
 //! - `arguments.txt`: the same, where the argument `e` is an error and `g` is a file.
 //! - `classes.txt`: a line is a class, which `main` raises with the text `t`.
 //! - `bodies.txt`: a source stands behind each line of `-- ` and words.
@@ -33,12 +33,13 @@ enum Rows {
     Steps,
 }
 
-const FILES: [(&str, Rows); 13] = [
+const FILES: [(&str, Rows); 14] = [
     ("operators.txt", Rows::Expressions),
     ("displays.txt", Rows::Expressions),
     ("builtins.txt", Rows::Expressions),
     ("methods.txt", Rows::Expressions),
     ("pending.txt", Rows::Expressions),
+    ("special.txt", Rows::Expressions),
     ("limits.txt", Rows::Expressions),
     ("arguments.txt", Rows::Arguments),
     ("classes.txt", Rows::Classes),

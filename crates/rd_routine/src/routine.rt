@@ -1,6 +1,7 @@
 //! Functions with numbers in the place of names.
 
 use crate::builtin::Builtin;
+use crate::special::Special;
 use rd_base::{Copies, Items, OutOfMemory, Text};
 use rd_tree::Statement;
 use rd_value::class::Class;
@@ -18,6 +19,7 @@ pub enum Callee {
     /// A helper, by its place among those of the body.
     Helper(usize),
     Builtin(Builtin),
+    Special(Special),
     Unknown,
 }
 
@@ -27,6 +29,7 @@ impl Copies for Callee {
             Callee::Task(task) => Ok(Callee::Task(task.copy(alloc)?)),
             Callee::Helper(place) => Ok(Callee::Helper(*place)),
             Callee::Builtin(builtin) => Ok(Callee::Builtin(*builtin)),
+            Callee::Special(special) => Ok(Callee::Special(*special)),
             Callee::Unknown => Ok(Callee::Unknown),
         }
     }

@@ -1,8 +1,9 @@
 //! The names of statements.
 
 ghost use Rattle.std.specs.Prelude.{◌≡◌, ◌++◌, ◌∷◌, OnOk, map};
+ghost use Rattle.rd_names.specs.Special.{special_named};
 ghost use Rattle.rd_names.specs.Uses.{joined};
-ghost use Rattle.rd_code.specs.Mentions.{answer_mentions, mentions_in, mentions_in_block, mentions_in_statement};
+ghost use Rattle.rd_code.specs.Mentions.{answer_mentions, named_in, named_in_block, named_in_statement};
 
 use crate::mention::{Mentions, Role};
 use rd_base::{Items, OutOfMemory, Text};
@@ -12,7 +13,7 @@ type Branch = (Node<Text>, Items<Statement<Text>>);
 
 impl Mentions {
     fn answer(&mut self, answer: &Option<Node<Text>>) -> Result<(), OutOfMemory>
-        ensures { OnOk result (self.new.all.items ≡ self.old.all.items ++ answer_mentions answer.now) }
+        ensures { OnOk result (self.new.all.items ≡ self.old.all.items ++ answer_mentions special_named answer.now) }
     {
         match answer {
             Some(value) => self.node(value),
@@ -23,7 +24,7 @@ impl Mentions {
     #[cycle(statements)]
     #[tactic(auto, using(crate::proofs::Mentions::behind))]
     fn statement(&mut self, statement: &Statement<Text>) -> Result<(), OutOfMemory>
-        ensures { OnOk result (self.new.all.items ≡ self.old.all.items ++ mentions_in_statement statement.now) }
+        ensures { OnOk result (self.new.all.items ≡ self.old.all.items ++ named_in_statement statement.now) }
     {
         match statement {
             Statement::Assign { name, value } => {
@@ -60,7 +61,7 @@ impl Mentions {
     #[cycle(statements)]
     #[tactic(auto, using(crate::proofs::Mentions::behind))]
     fn guarded(&mut self, node: &Node<Text>, body: &[Statement<Text>]) -> Result<(), OutOfMemory>
-        ensures { OnOk result (self.new.all.items ≡ self.old.all.items ++ (mentions_in node.now ++ mentions_in_block body.now)) }
+        ensures { OnOk result (self.new.all.items ≡ self.old.all.items ++ (named_in node.now ++ named_in_block body.now)) }
     {
         self.node(node)?;
         self.block(body)
@@ -69,7 +70,7 @@ impl Mentions {
     #[cycle(statements)]
     #[tactic(auto, using(crate::proofs::Mentions::behind))]
     pub fn block(&mut self, statements: &[Statement<Text>]) -> Result<(), OutOfMemory>
-        ensures { OnOk result (self.new.all.items ≡ self.old.all.items ++ mentions_in_block statements.now) }
+        ensures { OnOk result (self.new.all.items ≡ self.old.all.items ++ named_in_block statements.now) }
     {
         for statement in statements {
             self.statement(statement)?;
@@ -80,7 +81,7 @@ impl Mentions {
     #[cycle(statements)]
     #[tactic(auto, using(crate::proofs::Mentions::behind))]
     fn branches(&mut self, branches: &[Branch]) -> Result<(), OutOfMemory>
-        ensures { OnOk result (self.new.all.items ≡ self.old.all.items ++ (joined (map (λ b. mentions_in b.0 ++ mentions_in_block b.1) branches.now))) }
+        ensures { OnOk result (self.new.all.items ≡ self.old.all.items ++ (joined (map (λ b. named_in b.0 ++ named_in_block b.1) branches.now))) }
     {
         for branch in branches {
             self.guarded(&branch.0, branch.1.as_slice())?;

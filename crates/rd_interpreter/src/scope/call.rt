@@ -2,18 +2,21 @@
 
 ghost use Rattle.std.specs.Prelude.{◌≡◌, ◌≤◌, map, slice_get, IfOk};
 ghost use Rattle.std.specs.Option.{option_copied};
+ghost use Rattle.rd_routine.specs.Callees.{known, special_of};
+ghost use Rattle.rd_value.specs.declared.expr.Lazy.TheVariants as lazy;
 ghost use Rattle.rd_interpreter.specs.Body as spec;
+ghost use Rattle.rd_interpreter.specs.Making.{measured as spec_measured};
 ghost use Rattle.rd_interpreter.specs.State.{all};
-ghost use Rattle.rd_interpreter.specs.Running.{Answers, Gives, Raises, calls_in, function_in, known, meant, own, state};
+ghost use Rattle.rd_interpreter.specs.Running.{Answers, Gives, Raises, calls_in, function_in, meant, own, state};
 
 use crate::binding::{arguments, first_frame};
-use crate::builtins::builtin;
+use crate::builtins::{bad_arguments, builtin};
 use crate::frame::Frame;
 use crate::halt::{Halt, raise};
 use crate::making::measured;
 use crate::scope::Scope;
-use rd_base::{Copies, Items, Text};
-use rd_routine::{Callee, Routine, Slot};
+use rd_base::{Boxed, Copies, Items, Text};
+use rd_routine::{Callee, Form, Routine, Slot, Special, form_of};
 use rd_tree::Node;
 use rd_value::class::Class;
 use rd_value::expr::{Expr, Exprs, NamedExprs};
@@ -47,9 +50,49 @@ impl Scope<'_> {
         }
     }
 
-    /// A call, whose arguments come first.
+    /// What a call of the name makes, if that is special.
+    fn special(&self, slot: Slot) -> Option<Special>
+        ensures { result ≡ special_of ((function_in self.now).callee slot) }
+    {
+        match self.callee(slot) {
+            Some(Callee::Special(special)) => Some(*special),
+            _ => None,
+        }
+    }
+
+    /// A call by its form. A task and a class among its arguments aren't evaluated.
     #[cycle(run)]
     pub fn call(
+        &self,
+        slot: Slot,
+        positional: &[Node<Slot>],
+        keywords: &[(Slot, Node<Slot>)],
+        frame: &mut Frame,
+    ) -> Result<Expr, Halt>
+        ensures gives { let form = spec.form own (calls_in self.now) (function_in self.now) slot positional.now keywords.now in
+            Gives result (state frame.new) (spec.formed own (calls_in self.now) (function_in self.now) form slot (map (meant self.now) positional.now) (map (λ k. (k.0, meant self.now k.1)) keywords.now) (state frame.old)) }
+        ensures left { frame.new.left ≤ frame.old.left }
+    {
+        match form_of(self.special(slot), positional, keywords) {
+            Form::Plain | Form::Wrong => self.plain_call(slot, positional, keywords, frame),
+            Form::Mapping { task, list } => {
+                let list = self.node(list, frame)?;
+                self.mapped(*task, list, frame)
+            }
+            Form::Catching {
+                tried,
+                class,
+                recover,
+            } => {
+                let tried = self.node(tried, frame)?;
+                self.caught(*class, *recover, tried, frame)
+            }
+        }
+    }
+
+    /// A call whose arguments all come first.
+    #[cycle(run)]
+    fn plain_call(
         &self,
         slot: Slot,
         positional: &[Node<Slot>],
@@ -62,6 +105,77 @@ impl Scope<'_> {
         let positional = self.nodes(positional, frame)?;
         let keywords = self.keywords(keywords, frame)?;
         self.called(slot, positional, keywords, frame)
+    }
+
+    /// The calls of a task with each item of a list.
+    fn mapped(&self, slot: Slot, list: Expr, frame: &Frame) -> Result<Expr, Halt>
+        ensures { Gives result (state frame.now) (spec.mapped own (calls_in self.now) (function_in self.now) slot ((function_in self.now).callee slot) list (state frame.now)) }
+    {
+        match self.callee(slot) {
+            Some(Callee::Task(task)) => {
+                let map = Expr::Map {
+                    task: task.copy(self.alloc)?,
+                    list: Boxed::new(self.alloc, list)?,
+                };
+                measured(self.alloc, frame, map)
+            }
+            _ => Err(self.no_name(slot)),
+        }
+    }
+
+    /// What is tried, with the task that recovers from an error of a class.
+    fn caught(&self, class: Slot, recover: Slot, tried: Expr, frame: &Frame) -> Result<Expr, Halt>
+        ensures { Gives result (state frame.now) (spec.caught own (calls_in self.now) (function_in self.now) class ((function_in self.now).class_of class) recover ((function_in self.now).callee recover) tried (state frame.now)) }
+    {
+        let Some(class) = self.class(class) else {
+            return Err(self.no_name(class));
+        };
+        match self.callee(recover) {
+            Some(Callee::Task(task)) => {
+                let catch = Expr::Catch {
+                    tried: Boxed::new(self.alloc, tried)?,
+                    class,
+                    recover: task.copy(self.alloc)?,
+                };
+                measured(self.alloc, frame, catch)
+            }
+            _ => Err(self.no_name(recover)),
+        }
+    }
+
+    /// A conditional on what isn't there yet.
+    fn conditional(
+        &self,
+        test: &Expr,
+        when_true: &Expr,
+        when_false: &Expr,
+        frame: &Frame,
+    ) -> Result<Expr, Halt>
+        ensures { Gives result (state frame.now) (spec_measured own (lazy.Cond test.now when_true.now when_false.now) (state frame.now)) }
+    {
+        let conditional = Expr::Cond {
+            test: Boxed::new(self.alloc, test.copy(self.alloc)?)?,
+            when_true: Boxed::new(self.alloc, when_true.copy(self.alloc)?)?,
+            when_false: Boxed::new(self.alloc, when_false.copy(self.alloc)?)?,
+        };
+        measured(self.alloc, frame, conditional)
+    }
+
+    /// A call of this kind whose arguments are all evaluated.
+    fn made_special(
+        &self,
+        special: Special,
+        arguments: &[Expr],
+        frame: &Frame,
+    ) -> Result<Expr, Halt>
+        ensures { Gives result (state frame.now) (spec.made_special own (calls_in self.now) (function_in self.now) special arguments.now (state frame.now)) }
+    {
+        match (special, arguments) {
+            (Special::Cond, [test, when_true, when_false]) => {
+                self.conditional(test, when_true, when_false, frame)
+            }
+            _ => Err(bad_arguments(self.alloc)),
+        }
     }
 
     #[cycle(run)]
@@ -113,6 +227,9 @@ impl Scope<'_> {
             Some(Callee::Helper(place)) => self.helper(*place, positional, keywords, frame),
             Some(Callee::Builtin(kind)) => {
                 builtin(self.alloc, frame, *kind, positional.as_slice())
+            }
+            Some(Callee::Special(special)) => {
+                self.made_special(*special, positional.as_slice(), frame)
             }
             Some(Callee::Unknown) | None => Err(self.no_name(slot)),
         }

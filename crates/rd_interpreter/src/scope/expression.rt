@@ -35,7 +35,7 @@ fn literal(alloc: Global, value: &Value) -> Result<Expr, Halt>
 impl Scope<'_> {
     /// An expression.
     #[cycle(run)]
-    #[tactic(auto, unfolding(crate::specs::Body::node))]
+    #[tactic(auto, using(crate::proofs::Layers::node_lit, crate::proofs::Layers::node_name, crate::proofs::Layers::node_method, crate::proofs::Layers::node_index, crate::proofs::Layers::node_path, crate::proofs::Layers::node_neg, crate::proofs::Layers::node_not, crate::proofs::Layers::node_compare, crate::proofs::Layers::node_and, crate::proofs::Layers::node_or, crate::proofs::Layers::node_cond, crate::proofs::Layers::node_list, crate::proofs::Layers::node_dict, crate::proofs::Layers::node_comp, crate::proofs::Layers::node_call))]
     pub fn node(&self, node: &Node<Slot>, frame: &mut Frame) -> Result<Expr, Halt>
         ensures gives { Gives result (state frame.new) (meant self.now node.now (state frame.old)) }
         ensures left { frame.new.left ≤ frame.old.left }

@@ -66,15 +66,6 @@ impl Scope<'_> {
         }
     }
 
-    fn class(&self, slot: Slot) -> Option<Class>
-        ensures { result ≡ (function_in self.now).class_of slot }
-    {
-        match self.routine.words.as_slice().get(slot) {
-            Some(word) => word.class,
-            None => None,
-        }
-    }
-
     fn raising(&self, slot: Slot, text: &Expr, frame: &Frame) -> Result<Option<Expr>, Halt>
         ensures { Gives result (state frame.now) (spec.raise (function_in self.now) slot ((function_in self.now).class_of slot) text.now (state frame.now)) }
     {

@@ -1,5 +1,4 @@
 use Rattle.std.proofs.Common.{rules, ◌≡◌, true, ◌++◌, is_some, sym, ap, ◌∙◌, subst}
-use Rattle.rd_value.specs.Expand.{listed}
 use Rattle.rd_interpreter.specs.Held.{items_of}
 use Rattle.rd_interpreter.specs.Making.{made}
 use Rattle.rd_interpreter.specs.Running.{Gives, items_or_none, own, state}

@@ -3,7 +3,7 @@ use denote.Param.Weighed.{most}
 use Rattle.rd_tree.specs.declared.tree.Name.{Name}
 use Rattle.rd_tree.specs.declared.tree.Node.{size-Node}
 use Rattle.rd_names.specs.Uses.{joined}
-use Rattle.rd_names.specs.Names.{is_among, node_refusals}
+use Rattle.rd_names.specs.Names.{told_by, is_among, node_refusals}
 use Rattle.rd_names.proofs.uses.+nodes.Given as goal
 
 -- An operation is walked before its parts. Two nodes and lists are walked before their nodes, and what has such parts before these.
@@ -12,6 +12,12 @@ decreases-judge_node l = 4 * size-Node Name l.node.now + 1
 
 abbrev pub decreases-judge_operation : goal.decreases-judge_operation
 decreases-judge_operation l = 4 * size-Node Name l.node.now
+
+abbrev pub decreases-judge_call : goal.decreases-judge_call
+decreases-judge_call l = 4 * max (most (size-Node Name) l.positional.now) (most (λ k. size-Node Name k.1) l.keywords.now) + 4
+
+abbrev pub decreases-judge_arguments : goal.decreases-judge_arguments
+decreases-judge_arguments l = 4 * max (most (size-Node Name) l.positional.now) (most (λ k. size-Node Name k.1) l.keywords.now) + 3
 
 abbrev pub decreases-judge_nodes : goal.decreases-judge_nodes
 decreases-judge_nodes l = 4 * most (size-Node Name) l.nodes.now + 2
@@ -39,24 +45,24 @@ decreases-judge_within l = 4 * max (size-Node Name l.element.now) (most (size-No
 
 abbrev pub invariant-judge_nodes-loop-node : goal.invariant-judge_nodes-loop-node
 invariant-judge_nodes-loop-node l = (l.locals.keys ≡ l.fn.locals.keys) × (
-    l.all.items ++ joined (map (node_refusals (is_among l.functions.keys) (is_among l.fn.locals.keys)) (drop l.node-index l.nodes))
-    ≡ l.fn.all.items ++ joined (map (node_refusals (is_among l.functions.keys) (is_among l.fn.locals.keys)) l.nodes)
+    l.all.items ++ joined (map (node_refusals (told_by l.known) (is_among l.fn.locals.keys)) (drop l.node-index l.nodes))
+    ≡ l.fn.all.items ++ joined (map (node_refusals (told_by l.known) (is_among l.fn.locals.keys)) l.nodes)
     )
 
 abbrev pub invariant-judge_keywords-loop-keyword : goal.invariant-judge_keywords-loop-keyword
 invariant-judge_keywords-loop-keyword l = (l.locals.keys ≡ l.fn.locals.keys) × (
-    l.all.items ++ joined (map (λ k. node_refusals (is_among l.functions.keys) (is_among l.fn.locals.keys) k.1) (drop l.keyword-index l.keywords))
-    ≡ l.fn.all.items ++ joined (map (λ k. node_refusals (is_among l.functions.keys) (is_among l.fn.locals.keys) k.1) l.keywords)
+    l.all.items ++ joined (map (λ k. node_refusals (told_by l.known) (is_among l.fn.locals.keys) k.1) (drop l.keyword-index l.keywords))
+    ≡ l.fn.all.items ++ joined (map (λ k. node_refusals (told_by l.known) (is_among l.fn.locals.keys) k.1) l.keywords)
     )
 
 abbrev pub invariant-judge_links-loop-link : goal.invariant-judge_links-loop-link
 invariant-judge_links-loop-link l = (l.locals.keys ≡ l.fn.locals.keys) × (
-    l.all.items ++ joined (map (λ k. node_refusals (is_among l.functions.keys) (is_among l.fn.locals.keys) k.1) (drop l.link-index l.links))
-    ≡ l.fn.all.items ++ joined (map (λ k. node_refusals (is_among l.functions.keys) (is_among l.fn.locals.keys) k.1) l.links)
+    l.all.items ++ joined (map (λ k. node_refusals (told_by l.known) (is_among l.fn.locals.keys) k.1) (drop l.link-index l.links))
+    ≡ l.fn.all.items ++ joined (map (λ k. node_refusals (told_by l.known) (is_among l.fn.locals.keys) k.1) l.links)
     )
 
 abbrev pub invariant-judge_pairs-loop-pair : goal.invariant-judge_pairs-loop-pair
 invariant-judge_pairs-loop-pair l = (l.locals.keys ≡ l.fn.locals.keys) × (
-    l.all.items ++ joined (map (λ p. node_refusals (is_among l.functions.keys) (is_among l.fn.locals.keys) p.0 ++ node_refusals (is_among l.functions.keys) (is_among l.fn.locals.keys) p.1) (drop l.pair-index l.pairs))
-    ≡ l.fn.all.items ++ joined (map (λ p. node_refusals (is_among l.functions.keys) (is_among l.fn.locals.keys) p.0 ++ node_refusals (is_among l.functions.keys) (is_among l.fn.locals.keys) p.1) l.pairs)
+    l.all.items ++ joined (map (λ p. node_refusals (told_by l.known) (is_among l.fn.locals.keys) p.0 ++ node_refusals (told_by l.known) (is_among l.fn.locals.keys) p.1) (drop l.pair-index l.pairs))
+    ≡ l.fn.all.items ++ joined (map (λ p. node_refusals (told_by l.known) (is_among l.fn.locals.keys) p.0 ++ node_refusals (told_by l.known) (is_among l.fn.locals.keys) p.1) l.pairs)
     )

@@ -3,7 +3,7 @@ use denote.Param.Weighed.{most}
 use Rattle.rd_tree.specs.declared.tree.Name.{Name}
 use Rattle.rd_tree.specs.declared.tree.Statement.{size-Statement}
 use Rattle.rd_names.specs.Uses.{joined}
-use Rattle.rd_names.specs.Names.{is_among, node_refusals, statement_refusals}
+use Rattle.rd_names.specs.Names.{told_by, is_among, node_refusals, statement_refusals}
 use Rattle.rd_names.proofs.uses.+statements.Given as goal
 
 -- a block is walked before its statements, and the branches of an `if` before their blocks
@@ -21,14 +21,14 @@ decreases-judge_branches l = 4 * most (λ b. most (size-Statement Name) b.1) l.b
 
 abbrev pub invariant-judge_body-loop-statement : goal.invariant-judge_body-loop-statement
 invariant-judge_body-loop-statement l = (l.locals.keys ≡ l.fn.locals.keys) × (
-    l.all.items ++ joined (map (statement_refusals (is_among l.functions.keys) (is_among l.fn.locals.keys)) (drop l.statement-index l.body))
-    ≡ l.fn.all.items ++ joined (map (statement_refusals (is_among l.functions.keys) (is_among l.fn.locals.keys)) l.body)
+    l.all.items ++ joined (map (statement_refusals (told_by l.known) (is_among l.fn.locals.keys)) (drop l.statement-index l.body))
+    ≡ l.fn.all.items ++ joined (map (statement_refusals (told_by l.known) (is_among l.fn.locals.keys)) l.body)
     )
 
 abbrev pub invariant-judge_branches-loop-branch : goal.invariant-judge_branches-loop-branch
 invariant-judge_branches-loop-branch l = (l.locals.keys ≡ l.fn.locals.keys) × (
     l.all.items
-    ++ joined (map (λ b. node_refusals (is_among l.functions.keys) (is_among l.fn.locals.keys) b.0 ++ joined (map (statement_refusals (is_among l.functions.keys) (is_among l.fn.locals.keys)) b.1)) (drop l.branch-index l.branches))
+    ++ joined (map (λ b. node_refusals (told_by l.known) (is_among l.fn.locals.keys) b.0 ++ joined (map (statement_refusals (told_by l.known) (is_among l.fn.locals.keys)) b.1)) (drop l.branch-index l.branches))
     ≡ l.fn.all.items
-    ++ joined (map (λ b. node_refusals (is_among l.functions.keys) (is_among l.fn.locals.keys) b.0 ++ joined (map (statement_refusals (is_among l.functions.keys) (is_among l.fn.locals.keys)) b.1)) l.branches)
+    ++ joined (map (λ b. node_refusals (told_by l.known) (is_among l.fn.locals.keys) b.0 ++ joined (map (statement_refusals (told_by l.known) (is_among l.fn.locals.keys)) b.1)) l.branches)
     )

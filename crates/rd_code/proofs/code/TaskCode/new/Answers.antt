@@ -1,4 +1,3 @@
-use Rattle.std.proofs.Common.{map}
 use Rattle.rd_code.specs.Words.{word_from}
 use Rattle.rd_code.proofs.Numbered.{numbered_same, all_numbered_same}
 use Rattle.rd_code.proofs.code.TaskCode.new.Goals as goal

@@ -1,4 +1,4 @@
-use Rattle.std.proofs.Common.{◌≡◌, ℕ, suc, ◌-◌, length}
+use Rattle.std.proofs.Common.{◌≡◌, suc, ◌-◌, length}
 use Rattle.rd_interpreter.specs.Running.{local}
 use Rattle.rd_interpreter.proofs.frame.Frame.grow.Given as goal
 

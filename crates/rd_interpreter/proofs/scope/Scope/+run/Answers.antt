@@ -1,4 +1,4 @@
-use Rattle.std.proofs.Common.{rules, ◌≡◌, ℕ, true, Ok, sym, ap, ◌∙◌, subst, arith}
+use Rattle.std.proofs.Common.{rules, ◌≡◌, true, Ok, sym, ap, ◌∙◌, subst, arith}
 use Rattle.std.proofs.lemmas.Result.{err_from_is_err_and}
 use Rattle.rd_tree.specs.declared.tree.Node.TheVariants as variant
 use Rattle.rd_tree.specs.declared.tree.Statement.TheVariants as variant_statement
@@ -6,7 +6,7 @@ use Rattle.rd_interpreter.specs.Body.{too_many_calls, tested}
 use Rattle.rd_interpreter.specs.Running.{Gives, Answers, all_done, meant, state}
 use Rattle.rd_interpreter.specs.Turns.{left}
 use Rattle.rd_interpreter.proofs.Calls.{none_there, bound_fails, none_left, one_left, raised_answer, fails_answer}
-use Rattle.rd_interpreter.proofs.Nodes.{at_Chain, on_Dict, on_Call, on_Comp, on_If, on_For}
+use Rattle.rd_interpreter.proofs.Nodes.{at_Chain, formed_plain, on_Dict, on_Call, on_Comp, on_If, on_For}
 use Rattle.rd_interpreter.proofs.Operands.{test_fails, turn_fails, turn_returns}
 use Rattle.rd_interpreter.proofs.scope.Scope.+run.Goals as goal
 
@@ -92,3 +92,10 @@ statement-returns-in_ok-items-in-For-clause-gives t c =
     let is = c.in-For.is ∙ ap (variant_statement.For c.in-For.name c.in-For.iterable) (sym c.as_slice.ensures) in
     subst (λ r. Gives c.for_each.result (state c.for_each.new.frame) r)
     (sym (on_For c.args.self.now c.args.statement.now (state c.args.frame.now) (state c.spend.new.self) steps.0 steps.1 c.in-For.name c.in-For.iterable c.as_slice.result.now is (left c.in_ok-items-in-For.items) (state c.iterable.new.frame) c.in_ok-items-in-For.ensures.gives)) c.for_each.ensures.gives
+
+-- ---- calls by their form
+
+pub call-returns-in-Plain-clause-gives : goal.call-returns-in-Plain-clause-gives
+call-returns-in-Plain-clause-gives t c =
+    let read = sym (rw c.special.ensures at c.form_of.ensures) in
+    subst (λ r. Gives c.plain_call.result (state c.plain_call.new.frame) r) (sym (formed_plain c.args.self.now c.args.slot c.args.positional.now c.args.keywords.now c.form_of.result (state c.args.frame.now) read c.in-Plain.is)) c.plain_call.ensures.gives

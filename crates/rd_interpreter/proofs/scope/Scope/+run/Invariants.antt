@@ -1,4 +1,4 @@
-use Rattle.std.proofs.Common.{◌≡◌, ◌≤◌, ℕ, suc, ◌+◌, ◌-◌, ◌*◌, ◌++◌, map, drop, Ok, Some}
+use Rattle.std.proofs.Common.{◌≡◌, ◌≤◌, ◌+◌, ◌*◌, ◌++◌, map, drop, Ok, Some}
 use Rattle.rd_interpreter.specs.Body as spec
 use Rattle.rd_interpreter.specs.State.{and_then, all, in_order, each, collected, loop, turns}
 use Rattle.rd_interpreter.specs.Running.{all_done, branch_in, done, function_in, meant, own, put, state}
@@ -8,94 +8,97 @@ use Rattle.rd_interpreter.proofs.scope.Scope.+run.Given as goal
 -- Each expression and each statement takes a step; what it calls before that has a smaller number.
 
 abbrev pub decreases-block : goal.decreases-block
-decreases-block l = 8 * l.frame.now.left + 2
+decreases-block l = 9 * l.frame.now.left + 2
 
 abbrev pub decreases-branches : goal.decreases-branches
-decreases-branches l = 8 * l.frame.now.left + 4
+decreases-branches l = 9 * l.frame.now.left + 4
 
 abbrev pub decreases-call : goal.decreases-call
-decreases-call l = 8 * l.frame.now.left + 7
+decreases-call l = 9 * l.frame.now.left + 8
+
+abbrev pub decreases-plain_call : goal.decreases-plain_call
+decreases-plain_call l = 9 * l.frame.now.left + 7
 
 abbrev pub decreases-called : goal.decreases-called
-decreases-called l = 8 * l.frame.now.left + 6
+decreases-called l = 9 * l.frame.now.left + 6
 
 abbrev pub decreases-chain : goal.decreases-chain
-decreases-chain l = 8 * l.frame.now.left
+decreases-chain l = 9 * l.frame.now.left
 
 abbrev pub decreases-choice : goal.decreases-choice
-decreases-choice l = 8 * l.frame.now.left + 3
+decreases-choice l = 9 * l.frame.now.left + 3
 
 abbrev pub decreases-comparison : goal.decreases-comparison
-decreases-comparison l = 8 * l.frame.now.left + 2
+decreases-comparison l = 9 * l.frame.now.left + 2
 
 abbrev pub decreases-comprehension : goal.decreases-comprehension
-decreases-comprehension l = 8 * l.frame.now.left + 6
+decreases-comprehension l = 9 * l.frame.now.left + 6
 
 abbrev pub decreases-condition : goal.decreases-condition
-decreases-condition l = 8 * l.frame.now.left + 3
+decreases-condition l = 9 * l.frame.now.left + 3
 
 abbrev pub decreases-element : goal.decreases-element
-decreases-element l = 8 * l.frame.now.left + 4
+decreases-element l = 9 * l.frame.now.left + 4
 
 abbrev pub decreases-elements : goal.decreases-elements
-decreases-elements l = 8 * l.frame.now.left + 5
+decreases-elements l = 9 * l.frame.now.left + 5
 
 abbrev pub decreases-for_each : goal.decreases-for_each
-decreases-for_each l = 8 * l.frame.now.left + 3
+decreases-for_each l = 9 * l.frame.now.left + 3
 
 abbrev pub decreases-helper : goal.decreases-helper
-decreases-helper l = 8 * l.frame.now.left + 5
+decreases-helper l = 9 * l.frame.now.left + 5
 
 abbrev pub decreases-holds : goal.decreases-holds
-decreases-holds l = 8 * l.frame.now.left + 2
+decreases-holds l = 9 * l.frame.now.left + 2
 
 abbrev pub decreases-index : goal.decreases-index
-decreases-index l = 8 * l.frame.now.left + 2
+decreases-index l = 9 * l.frame.now.left + 2
 
 abbrev pub decreases-inversion : goal.decreases-inversion
-decreases-inversion l = 8 * l.frame.now.left + 3
+decreases-inversion l = 9 * l.frame.now.left + 3
 
 abbrev pub decreases-keyword : goal.decreases-keyword
-decreases-keyword l = 8 * l.frame.now.left + 2
+decreases-keyword l = 9 * l.frame.now.left + 2
 
 abbrev pub decreases-keywords : goal.decreases-keywords
-decreases-keywords l = 8 * l.frame.now.left + 3
+decreases-keywords l = 9 * l.frame.now.left + 3
 
 abbrev pub decreases-links : goal.decreases-links
-decreases-links l = 8 * l.frame.now.left + 2
+decreases-links l = 9 * l.frame.now.left + 2
 
 abbrev pub decreases-method : goal.decreases-method
-decreases-method l = 8 * l.frame.now.left + 3
+decreases-method l = 9 * l.frame.now.left + 3
 
 abbrev pub decreases-negation : goal.decreases-negation
-decreases-negation l = 8 * l.frame.now.left + 2
+decreases-negation l = 9 * l.frame.now.left + 2
 
 abbrev pub decreases-node : goal.decreases-node
-decreases-node l = 8 * l.frame.now.left + 1
+decreases-node l = 9 * l.frame.now.left + 1
 
 abbrev pub decreases-nodes : goal.decreases-nodes
-decreases-nodes l = 8 * l.frame.now.left + 2
+decreases-nodes l = 9 * l.frame.now.left + 2
 
 abbrev pub decreases-operands : goal.decreases-operands
-decreases-operands l = 8 * l.frame.now.left + 0
+decreases-operands l = 9 * l.frame.now.left + 0
 
 abbrev pub decreases-pair : goal.decreases-pair
-decreases-pair l = 8 * l.frame.now.left + 2
+decreases-pair l = 9 * l.frame.now.left + 2
 
 abbrev pub decreases-pairs : goal.decreases-pairs
-decreases-pairs l = 8 * l.frame.now.left + 3
+decreases-pairs l = 9 * l.frame.now.left + 3
 
 abbrev pub decreases-repeat : goal.decreases-repeat
-decreases-repeat l = 8 * l.frame.now.left + 4
+decreases-repeat l = 9 * l.frame.now.left + 4
 
 abbrev pub decreases-run : goal.decreases-run
-decreases-run l = 8 * l.left + 3
+decreases-run l = 9 * l.left + 3
 
 abbrev pub decreases-statement : goal.decreases-statement
-decreases-statement l = 8 * l.frame.now.left + 1
+decreases-statement l = 9 * l.frame.now.left + 1
 
 abbrev pub decreases-until : goal.decreases-until
-decreases-until l = 8 * l.frame.now.left + 2
+decreases-until l = 9 * l.frame.now.left + 2
 
 abbrev pub invariant-block-loop-statement : goal.invariant-block-loop-statement
 invariant-block-loop-statement l =
@@ -157,16 +160,16 @@ invariant-until-loop-next l =
     × (l.frame.left ≤ l.initial.frame.left)
 
 abbrev pub decreases-path : goal.decreases-path
-decreases-path l = 8 * l.frame.now.left + 2
+decreases-path l = 9 * l.frame.now.left + 2
 
 abbrev pub decreases-iterable : goal.decreases-iterable
-decreases-iterable l = 8 * l.frame.now.left + 2
+decreases-iterable l = 9 * l.frame.now.left + 2
 
 abbrev pub decreases-opened : goal.decreases-opened
-decreases-opened l = 8 * l.left + 4
+decreases-opened l = 9 * l.left + 4
 
 abbrev pub decreases-dict : goal.decreases-dict
-decreases-dict l = 8 * l.frame.now.left + 4
+decreases-dict l = 9 * l.frame.now.left + 4
 
 abbrev pub decreases-comprehended : goal.decreases-comprehended
-decreases-comprehended l = 8 * l.frame.now.left + 7
+decreases-comprehended l = 9 * l.frame.now.left + 7
