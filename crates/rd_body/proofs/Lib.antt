@@ -19,5 +19,12 @@ pub mod RenamedNodes
 pub mod RenamedParts
 pub mod RenamedPlaces
 pub mod RenamedStatements
+pub mod HomeParts
+pub mod HomeMakings
+pub mod HomeOperations
+pub mod HomeNodes
+pub mod HomeStatements
+pub mod HomeBodies
+pub mod HomeCodes
 pub mod Outcomes
 pub mod Threads

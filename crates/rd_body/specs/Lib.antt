@@ -1,4 +1,5 @@
 pub mod Renaming
 pub mod Code
 pub mod Jobs
+pub mod Home
 pub mod Erasure

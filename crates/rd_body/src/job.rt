@@ -2,6 +2,7 @@
 
 ghost use Rattle.std.specs.Prelude.{◌≡◌, IfOk, length};
 ghost use Rattle.std.specs.Arc.{arc_value};
+ghost use Rattle.rd_body.specs.Home.{IsHomeReduction, IsKeptReduction, IsTaskIn};
 ghost use Rattle.rd_body.specs.Jobs as spec;
 
 use rd_base::{Copies, OutOfMemory, Text};
@@ -46,8 +47,11 @@ impl Finished {
         &self.job
     }
 
+    /// What the body came to.
     pub fn reduction(&self) -> &Reduction
-        ensures { result.now ≡ spec.outcome (arc_value self.now.job.code) self.now.job.args }
+        ensures is { result.now ≡ spec.outcome (arc_value self.now.job.code) self.now.job.args }
+        ensures at_home { IsHomeReduction (IsTaskIn (arc_value self.now.job.code).names) result.now }
+        ensures within { IsKeptReduction result.now }
     {
         &self.reduction
     }

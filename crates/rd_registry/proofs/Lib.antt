@@ -1,6 +1,7 @@
 pub mod Ascending
 pub mod Elements
 pub mod ErasedModules
+pub mod HomeModules
 pub mod Located
 pub mod Meanings
 pub mod Mentioned

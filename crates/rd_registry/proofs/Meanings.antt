@@ -51,6 +51,7 @@ use Rattle.rd_registry.specs.Functions.{found_of, found_among, callee_in}
 use Rattle.rd_registry.specs.Reach.{names_helper, further_of, further}
 use Rattle.rd_registry.specs.Registry.{IsCodeOf, IsMade}
 use Rattle.rd_registry.specs.Resolved.{Resolves, with_helper, helpers_at}
+use Rattle.rd_registry.proofs.HomeModules.{gives_at_home}
 use Rattle.rd_registry.proofs.Elements.{first, later, cases, nothing_in, among, in_map, in_filter, in_joined}
 use Rattle.rd_registry.proofs.Located.{callee_found, Located, located, some_same}
 use Rattle.rd_registry.proofs.Mentioned.{mention_with, block_mentions}
@@ -428,4 +429,4 @@ module _ (m : Module) where
           (function_of m f) (code.function_with task.helpers task.names task.signature.parameters task.body) as_task args
 
     pub is_code : IsCodeOf m f task
-    is_code = record { full_name = made.named; parameters = ap (λ x. x.parameters) made.parts.signed; block = made.parts.bodied; resolves = made.resolves; means = code_means own }
+    is_code = record { full_name = made.named; parameters = ap (λ x. x.parameters) made.parts.signed; block = made.parts.bodied; resolves = made.resolves; means = code_means own; at_home = gives_at_home m helpers task made.resolves }

@@ -102,7 +102,7 @@ module _ (space : Option (List ℕ)) (full : List ℕ) where
   there_if f name more false false is e h next = next e h
 
   -- the full name of a function is that of a task
-  task_there : (fs : List Function) (text : List ℕ) → by_name space fs text ≡ Some full → task_among space fs full ≡ None → ⊥
+  pub task_there : (fs : List Function) (text : List ℕ) → by_name space fs text ≡ Some full → task_among space fs full ≡ None → ⊥
   task_there [] text e h = absurd (let no : None ≡ Some full = e in cc)
   task_there (f ∷ fs) text e h = there_if f (by_name space fs text) (task_among space fs full) (bytes_eq text f.name.text) (is_named full (task_name_by space f.name.text f.task)) refl e h (task_there fs text)
 

@@ -3,6 +3,7 @@ pub mod Codes
 pub mod Functions
 pub mod Reach
 pub mod Resolved
+pub mod Home
 pub mod Registry
 pub mod Words
 pub mod Structures

@@ -17,9 +17,11 @@ use Rattle.rd_registry.specs.declared.task.Task.{Task}
 use Rattle.rd_registry.specs.declared.task.TaskId.{TaskId}
 use Rattle.rd_interpreter.specs.Running.{own}
 use Rattle.rd_body.specs.Code.{meaning}
+use Rattle.rd_body.specs.Jobs.{outcome}
 use Rattle.rd_registry.specs.Bodies.{body, find_task, task_name_by}
 use Rattle.rd_registry.specs.Codes.{block_of, parameter_of, signature_of}
 use Rattle.rd_registry.specs.Functions.{callee_in, found_among, helper_at}
+use Rattle.rd_registry.specs.Home.{IsAtHome}
 use Rattle.rd_registry.specs.Resolved.{HasParts, Resolves}
 
 -- the code of a function as a task, whose names are resolved
@@ -47,13 +49,14 @@ helpers_in m text = helper_at (found_among (first_space m.namespaces) 0 m.functi
 abbrev pub callees_in : Module → List ℕ → Option Callee
 callees_in m text = callee_in (found_among (first_space m.namespaces) 0 m.functions text)
 
--- The code of a module's task: it has the function's parts, its names are resolved, and it means what the function means over the module's own tree.
+-- The code of a module's task: it has the function's parts, its names are resolved, it means what the function means over the module's own tree, and what it gives is at home in the module.
 pub record IsCodeOf (m : Module) (f : Function) (code : TaskCode) : Type 0 where
   pub full_name : task_name_by (first_space m.namespaces) f.name.text f.task ≡ Some code.full_name
   pub parameters : code.signature.parameters ≡ map parameter_of f.parameters
   pub block : code.body ≡ block_of f.body
   pub resolves : Resolves (helpers_in m) (callees_in m) code
   pub means : (args : List (Datum FileValue)) → meaning own code args ≡ body own m f args
+  pub at_home : (args : List (Datum FileValue)) → IsAtHome m (outcome code args)
 
 abbrev pub CodedOf : Module → Option Function → Option TaskCode → Type 0
 CodedOf m None None = Unit {0}

@@ -107,7 +107,7 @@ pub body-returns-clause-gives : goal.body-returns-clause-gives
 body-returns-clause-gives t c =
     let job = c.in_ok-finished.finished.job in
     body_fails c.args.self.now.tasks.now c.args.depth (arc_value c.args.code.now) (arc_value job.code) c.args.arguments job.args c.reduction.result.now c.args.met.now c.in-Failed.failure c.in_ok-copy-in-Failed.field-0
-    c.requires.few (c.in_ok-finished.ensures.code, c.in_ok-finished.ensures.args, c.reduction.ensures) c.in-Failed.is c.in_ok-copy-in-Failed.ensures
+    c.requires.few (c.in_ok-finished.ensures.code, c.in_ok-finished.ensures.args, c.reduction.ensures.is) c.in-Failed.is c.in_ok-copy-in-Failed.ensures
 
 pub parts-loop-part-init : goal.parts-loop-part-init
 parts-loop-part-init t c = start fresh.alone (at_depth c.args.self.now.tasks.now c.args.depth) c.args.parts.now c.args.met.now _ c.requires.few (ap gathered.All c.new.ensures)
